@@ -1,0 +1,10 @@
+.PHONY: test lists
+
+# The gate: proves every crate, tries the must-fail edits, runs the programs.
+test:
+	@bash .ci/run
+
+# The oracle's lists anew, from the original in SID_SOURCE (tools/oracle/README.md).
+lists:
+	cd tools/oracle && cargo build --release
+	tools/oracle/target/release/oracle list bus > crates/bus_cases/data/bus

@@ -1,0 +1,14 @@
+use Rattle.bus.specs.Bus.{driven}
+use borrow.Author.Needs.{needs}
+use Rattle.bus.proofs.InternalDataBus.driven.Statement.{statement}
+use Rattle.bus.proofs.InternalDataBus.driven.Tie as tie
+
+next-expiry-for-requires : tie.Need-next-expiry-for-requires
+next-expiry-for-requires c κs = search needs
+
+returns : tie.Need-returns
+unfolding driven
+returns c = cc
+
+pub driven-spec : {M : Type 1} → statement M
+driven-spec = tie.close (tie.spec next-expiry-for-requires returns)

@@ -1,0 +1,12 @@
+-- `bus::lent_reset` meets its contract, by the walk in Lent.antt of a bus that is lent to `reset`.
+use Rattle.bus.specs.Bus.{fresh}
+use Rattle.bus.proofs.Lent.{lending-meets}
+use Rattle.bus.proofs.InternalDataBus.reset.Symbol as method
+use Rattle.bus.proofs.InternalDataBus.reset.Met.{met}
+use Rattle.bus.proofs.lent_reset.Key.{name}
+use Rattle.bus.proofs.lent_reset.Statement.{statement}
+use Rattle.bus.proofs.lent_reset.Code as code
+
+pub lent-reset-spec : {M : Type 1} → statement M
+unfolding code.routine
+lent-reset-spec 𝓤 H 𝓜 𝓖 𝓡 = lending-meets 𝓤 H 𝓜 𝓖 𝓡 (λ _. fresh) method.name method.routine (met 𝓤 H 𝓜 𝓖 𝓡) code.env name (code.unfolded 𝓤 H 𝓜 𝓡) code.calls-bus·InternalDataBus·reset

@@ -1,0 +1,28 @@
+-- Document 01, 'Numbers a caller can get back': the number of each refusal, with the table's words. Every promise of a refusal cites it.
+use Prim.Native.Nat.{ℕ}
+use Rattle.refusals.specs.declared.Refusal.{Refusal}
+use Rattle.refusals.specs.declared.Refusal.the-variants.{NoTable, TableLength, VoiceNumber, ScoreLength, FieldCut, UnknownTag, FieldLength, StampTooLate, StampFalls, AfterEnd, NoEnd}
+
+abbrev pub numberOf : Refusal → ℕ
+-- table for a selection above 15 or with under two bits; place 0
+numberOf NoTable = 1
+-- table part not 4096 entries; place 0
+numberOf TableLength = 2
+-- voice number above 2; place 0
+numberOf VoiceNumber = 3
+-- score over 65,536 bytes; place 0
+numberOf ScoreLength = 4
+-- field header or value cut off; place: the tag
+numberOf FieldCut = 5
+-- unknown tag; place: the tag
+numberOf UnknownTag = 6
+-- length not the tag's; place: the tag
+numberOf FieldLength = 7
+-- stamp over 100,000,000; place: the tag
+numberOf StampTooLate = 8
+-- stamp below the field before; place: the tag
+numberOf StampFalls = 9
+-- bytes after the end field; place: the first such byte
+numberOf AfterEnd = 10
+-- no end field, empty score included; place: the score's length
+numberOf NoEnd = 11

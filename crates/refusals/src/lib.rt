@@ -1,0 +1,35 @@
+// The numbers that a caller can get back (document 01, 'Numbers a caller can get back').
+ghost use mathlib.Core.Path.{_≡_};
+ghost use Rattle.refusals.specs.Refusals.{numberOf};
+
+pub enum Refusal {
+    NoTable,
+    TableLength,
+    VoiceNumber,
+    ScoreLength,
+    FieldCut,
+    UnknownTag,
+    FieldLength,
+    StampTooLate,
+    StampFalls,
+    AfterEnd,
+    NoEnd,
+}
+
+pub fn number(r: Refusal) -> u8
+    ensures { λ n. ⌜ n ≡ numberOf r ⌝ }
+{
+    match r {
+        Refusal::NoTable => 1,
+        Refusal::TableLength => 2,
+        Refusal::VoiceNumber => 3,
+        Refusal::ScoreLength => 4,
+        Refusal::FieldCut => 5,
+        Refusal::UnknownTag => 6,
+        Refusal::FieldLength => 7,
+        Refusal::StampTooLate => 8,
+        Refusal::StampFalls => 9,
+        Refusal::AfterEnd => 10,
+        Refusal::NoEnd => 11,
+    }
+}

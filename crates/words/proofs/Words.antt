@@ -1,0 +1,31 @@
+-- Laws of `numberAt`. Assumes nothing.
+use Prim.Native.Nat.{ℕ, zero, suc, _+_, _*_, _^_, _≤_, _<_}
+use native.Mathlib.Omega.{arith}
+use native.Mathlib.Nat.{zero-add, add-zero, suc-add, one-mul, mul-add, mul-assoc, pow-succ'}
+use mathlib.Core.Path.{_≡_}
+use mathlib.Core.List.{List}
+use lib.ListN.{length}
+use borrow.Author.Tests.{le-leb, lt-leb}
+use Rattle.words.specs.Words.{little, numberAt}
+
+module _ (s : List ℕ) where
+  little-join : (j k at : ℕ) → little (j + k) s at ≡ little j s at + 256 ^ j * little k s (at + j)
+  unfolding little
+  little-join zero k at = simp (zero-add, add-zero, one-mul)
+  little-join (suc j) k at =
+      let p : at + suc j ≡ at + 1 + j = omega arith in
+      rw (suc-add, little-join j k (at + 1), pow-succ', p) (omega (arith, mul-add 256 (little j s (at + 1)) (256 ^ j * little k s (at + 1 + j)), mul-assoc 256 (256 ^ j) (little k s (at + 1 + j))))
+
+  module _ (k at : ℕ) where
+    pub number-there : at + k ≤ length s → numberAt k s at ≡ little k s at
+    unfolding numberAt
+    number-there h = simp (le-leb (at + k) (length s) h)
+
+    pub number-cut : length s < at + k → numberAt k s at ≡ 0
+    unfolding numberAt
+    number-cut h = simp (lt-leb (at + k) (length s) h)
+
+  -- a number is its lower bytes and, 256 times as much each, its upper ones
+  pub number-join : (j k at : ℕ) → at + (j + k) ≤ length s → numberAt (j + k) s at ≡ numberAt j s at + 256 ^ j * numberAt k s (at + j)
+  number-join j k at h =
+      rw (number-there (j + k) at h, number-there j at (omega arith), number-there k (at + j) (omega arith)) (little-join j k at)

@@ -1,0 +1,19 @@
+//! The lists by name; each is made in a file of its own.
+
+mod bus;
+
+use std::ffi::OsStr;
+
+type List = fn() -> Vec<u8>;
+
+const LISTS: [(&str, List); 1] = [("bus", bus::list)];
+
+pub fn named(name: &OsStr) -> Option<List> {
+    let found = LISTS.iter().find(|(known, _)| name == *known);
+    found.map(|(_, list)| *list)
+}
+
+/// All names, for the usage line.
+pub fn names() -> String {
+    LISTS.map(|(name, _)| name).join(" or ")
+}
