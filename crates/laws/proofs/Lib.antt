@@ -1,2 +1,3 @@
+pub mod Cond
 pub mod Table
 pub mod Times

@@ -1,5 +1,6 @@
 -- Document 01, 'Numbers a caller can get back': the number of each refusal, with the table's words. Every promise of a refusal cites it.
 use Prim.Native.Nat.{ℕ}
+use Rattle.refusals.specs.declared.Refused.{Refused}
 use Rattle.refusals.specs.declared.Refusal.{Refusal}
 use Rattle.refusals.specs.declared.Refusal.the-variants.{NoTable, TableLength, VoiceNumber, ScoreLength, FieldCut, UnknownTag, FieldLength, StampTooLate, StampFalls, AfterEnd, NoEnd}
 
@@ -26,3 +27,14 @@ numberOf StampFalls = 9
 numberOf AfterEnd = 10
 -- no end field, empty score included; place: the score's length
 numberOf NoEnd = 11
+
+abbrev pub refused : Refusal → ℕ → Refused
+refused why place = record { why = why; place = place }
+
+-- what a refused call gives back: the table's 'No.' and 'Place'
+pub record Told : Type 0 where
+  pub number : ℕ
+  pub place : ℕ
+
+abbrev pub told : Refused → Told
+told r = record { number = numberOf (r .why); place = r .place }

@@ -16,6 +16,12 @@ pub enum Refusal {
     NoEnd,
 }
 
+// What a refused call answers.
+pub struct Refused {
+    pub why: Refusal,
+    pub place: usize,
+}
+
 pub fn number(r: Refusal) -> u8
     ensures { λ n. ⌜ n ≡ numberOf r ⌝ }
 {

@@ -1,0 +1,8 @@
+-- What holds of both ways that a test can go holds of `cond`. Assumes nothing.
+use mathlib.Core.Path.{_≡_, refl}
+use mathlib.Core.Bool.{Bool, true, false, cond}
+
+module _ {A : Type 0} (P : A → Type 0) where
+  pub by-test : (b : Bool) (x y : A) → (b ≡ true → P x) → (b ≡ false → P y) → P (cond b x y)
+  by-test true x y f g = f refl
+  by-test false x y f g = g refl

@@ -1,0 +1,150 @@
+-- The round trip: an accepted score is the bytes of its fields, and the bytes of fields in order are a score of those fields. Assumes nothing.
+use Prim.Native.Nat.{ℕ, _+_, _^_, _≤_, _<_}
+use native.Mathlib.Omega.{arith}
+use mathlib.Core.Bool.{true}
+use mathlib.Core.List.{List, [], _∷_, _++_, append-assoc}
+use mathlib.Core.Path.{_≡_, refl, ap, ap₂, subst, sym, _∙_}
+use lib.Dec.{ltb, eqb}
+use lib.ListN.{length, drop, length-drop, length-append}
+use lib.Seq.{drop-drop, drop-length, getD-drop, drop-append-seam}
+use borrow.Author.Tests.{eqb-true, ltb-false}
+use Rattle.laws.proofs.Cond.{by-test}
+use Rattle.words.proofs.Bytes.{length-bytes, byte-number, byte-first, number-bytes, bytes-number}
+use Rattle.words.specs.Words.{Bytes, numberAt, bytesOf}
+use Rattle.score.specs.declared.Admitted.{Admitted}
+use Rattle.score.specs.declared.Admitted.the-variants.{Next}
+use Rattle.score.specs.declared.Field.{Field}
+use Rattle.score.specs.declared.Field.the-variants.{Write, Read, Levels, End}
+use Rattle.score.specs.declared.FieldRead.the-variants.{Got}
+use Rattle.score.specs.declared.Order.{Order}
+use Rattle.score.specs.Fields.{lenOf, valueOf, fieldAt, tagOf, stampOf, restOf, written, allWritten}
+use Rattle.score.specs.Scores.{good, scoreOf, Chain, ends, goes}
+use Rattle.score.specs.Stamps.{unstamped, admit, InOrder, closed, opened}
+use Rattle.score.proofs.Chains.{score-chain, chain-score}
+use Rattle.score.proofs.Fields.{field-whole, stands}
+
+-- ---- a field that was read is the bytes at its place
+
+-- a known tag is one of four
+tags : (P : ℕ → Type 0) → P 0x01 → P 0x02 → P 0x03 → P 0x7f → (tag : ℕ) → (lenOf tag ≡ 0 → ⊥) → P tag
+unfolding lenOf
+tags P write read levels end tag =
+    let by = by-test (λ (n : ℕ). (n ≡ 0 → ⊥) → P tag) in
+    by (eqb tag 0x01) 6 _ (λ t _. is 0x01 t write)
+    (λ _. by (eqb tag 0x02) 5 _ (λ t _. is 0x02 t read)
+    (λ _. by (eqb tag 0x03) 4 _ (λ t _. is 0x03 t levels)
+    (λ _. by (eqb tag 0x7f) 4 0 (λ t _. is 0x7f t end) (λ _ k. absurd (k refl)))))
+  where
+    is : (n : ℕ) → eqb tag n ≡ true → P n → P tag
+    is n t = subst P (sym (eqb-true tag n t))
+
+-- what the value v of a field says
+record Value (tag : ℕ) (v : List ℕ) : Type 0 where
+  tag-is : tagOf (valueOf tag v) ≡ tag
+  bytes : v ≡ bytesOf 4 (stampOf (valueOf tag v)) ++ (restOf (valueOf tag v) ++ drop (lenOf tag) v)
+
+value-bytes : (v : List ℕ) → Bytes v → (tag : ℕ) → (lenOf tag ≡ 0 → ⊥) → lenOf tag ≤ length v → Value tag v
+unfolding lenOf valueOf
+value-bytes v small =
+    let stamp = number-bytes v small 4 0 in
+    tags (λ (tag : ℕ). lenOf tag ≤ length v → Value tag v)
+    (λ h. record { tag-is = refl; bytes = stamp (omega arith) ∙ rw (byte-first v 4 (omega arith), byte-first v 5 (omega arith)) })
+    (λ h. record { tag-is = refl; bytes = stamp (omega arith) ∙ rw (byte-first v 4 (omega arith)) })
+    (λ h. record { tag-is = refl; bytes = stamp (omega arith) })
+    (λ h. record { tag-is = refl; bytes = stamp (omega arith) })
+
+-- the pieces of a field's bytes, before the bytes ys
+parts : (f : Field) (ys : List ℕ) → written f ++ ys ≡ tagOf f ∷ (bytesOf 2 (lenOf (tagOf f)) ++ (bytesOf 4 (stampOf f) ++ (restOf f ++ ys)))
+unfolding written
+parts f ys = simp append-assoc
+
+module _ (s : List ℕ) (small : Bytes s) where
+  pub field-bytes : (at : ℕ) {f : Field} {next : ℕ} → fieldAt s at ≡ Got f next → drop at s ≡ written f ++ drop next s
+  field-bytes at {f} {next} e =
+      let st = stands s at e in
+      let tag = numberAt 1 s at in
+      let v = drop (at + 3) s in
+      let b : Value tag v = value-bytes v (λ i. rw (getD-drop (at + 3) s i 0) (small (at + 3 + i))) tag (st .known) (omega (arith, length-drop (at + 3) s)) in
+      let t : tagOf f ≡ tag = ap tagOf (st .field) ∙ b .tag-is in
+      let p : at + 1 + 2 ≡ at + 3 = omega arith in
+      let w : v ≡ bytesOf 4 (stampOf f) ++ (restOf f ++ drop next s) = rw (st .field, st .ends, ← drop-drop (lenOf tag) (at + 3) s) (b .bytes) in
+      rw (parts f (drop next s), t, byte-first s at (omega arith), number-bytes s small 2 (at + 1) (omega arith), st .says, p)
+      (ap (λ (x : List ℕ). tag ∷ (bytesOf 2 (lenOf tag) ++ x)) w)
+
+-- ---- a field that was written is read back
+
+record Shape (f : Field) : Type 0 where
+  four : 4 ≤ lenOf (tagOf f)
+  six : lenOf (tagOf f) ≤ 6
+  long : length (written f) ≡ 3 + lenOf (tagOf f)
+
+shape : (f : Field) → Shape f
+unfolding lenOf written bytesOf
+shape (Write t a v) = record { four = omega arith; six = omega arith; long = refl }
+shape (Read t a) = record { four = omega arith; six = omega arith; long = refl }
+shape (Levels t) = record { four = omega arith; six = omega arith; long = refl }
+shape (End t) = record { four = omega arith; six = omega arith; long = refl }
+
+module _ (ys : List ℕ) where
+  abbrev value : Field → List ℕ
+  value f = bytesOf 4 (stampOf f) ++ (restOf f ++ ys)
+
+  value-back : (f : Field) → stampOf f < 2 ^ 32 → valueOf (tagOf f) (value f) ≡ f
+  unfolding valueOf bytesOf
+  value-back f l = go f (bytes-number (value f) 4 0 (stampOf f) (restOf f ++ ys) refl (omega (arith, length-append (bytesOf 4 (stampOf f)) (restOf f ++ ys), length-bytes 4 (stampOf f))) l)
+    where
+      go : (f : Field) → numberAt 4 (value f) 0 ≡ stampOf f → valueOf (tagOf f) (value f) ≡ f
+      go (Write t a v) e = rw (e, byte-number (value (Write t a v)) 4 (omega arith), byte-number (value (Write t a v)) 5 (omega arith))
+      go (Read t a) e = rw (e, byte-number (value (Read t a)) 4 (omega arith))
+      go (Levels t) e = ap Levels e
+      go (End t) e = ap End e
+
+  pub field-back : (s : List ℕ) (at : ℕ) (f : Field) → stampOf f < 2 ^ 32 → drop at s ≡ written f ++ ys → fieldAt s at ≡ Got f (at + length (written f))
+  unfolding bytesOf
+  field-back s at f l e =
+      let sh = shape f in
+      let n = lenOf (tagOf f) in
+      let d : drop at s ≡ tagOf f ∷ (bytesOf 2 n ++ value f) = e ∙ parts f ys in
+      let long : length s ≡ at + length (written f) + length ys = omega (arith, length-drop at s, ap length e, length-append (written f) ys) in
+      let t : numberAt 1 s at ≡ tagOf f = cc (byte-first s at (omega arith)) in
+      let says : numberAt 2 s (at + 1) ≡ n = bytes-number s 2 (at + 1) n (value f) (sym (drop-drop 1 at s) ∙ ap (drop 1) d) (omega arith) (omega arith) in
+      let v : drop (at + 3) s ≡ value f = sym (drop-drop 3 at s) ∙ ap (drop 3) d in
+      field-whole s at (omega arith) (ap lenOf (sym t)) (λ z. omega arith) says (omega arith)
+      ∙ ap₂ Got (ap₂ valueOf t v ∙ value-back f l) (omega arith)
+
+-- ---- scores
+
+chain-bytes : {s : List ℕ} {at : ℕ} {o : Order} {fs : List Field} → Bytes s → Chain s at o fs → drop at s ≡ allWritten fs
+unfolding allWritten
+chain-bytes {s} {at} small (ends e a i) = field-bytes s small at e ∙ rw drop-length
+chain-bytes {s} {at} small (goes e a i r) = field-bytes s small at e ∙ rw (chain-bytes small r)
+
+chain-order : {s : List ℕ} {at : ℕ} {o : Order} {fs : List Field} → Chain s at o fs → InOrder o fs
+chain-order (ends e a i) = closed a i
+chain-order (goes e a i r) = opened a i (chain-order r)
+
+-- an accepted score is the bytes of its fields, which are in order
+pub score-bytes : {s : List ℕ} {fs : List Field} → Bytes s → scoreOf s ≡ good fs → (s ≡ allWritten fs) × InOrder unstamped fs × (length s ≤ 65536)
+score-bytes {s} small e = let c = score-chain s e in (chain-bytes small (c .0), chain-order (c .0), c .1)
+
+admitted-le : (o : Order) (f : Field) (o′ : Order) → admit o f ≡ Next o′ → stampOf f ≤ 100000000
+unfolding admit
+admitted-le o f o′ =
+    by-test (λ (r : Admitted). r ≡ Next o′ → stampOf f ≤ 100000000) (ltb 100000000 (stampOf f)) _ _
+    (λ _ e. let z : _≡_ {A = ℕ} 0 1 = cc in absurd (omega arith)) (λ l _. ltb-false 100000000 (stampOf f) l)
+
+order-chain : {o : Order} {fs : List Field} → InOrder o fs → (s : List ℕ) (at : ℕ) → drop at s ≡ allWritten fs → Chain s at o fs
+unfolding allWritten
+order-chain {o} (closed {o′ = o′} {f = f} a i) s at e =
+    let l = admitted-le o f o′ a in
+    let sh = shape f in
+    let q : at + length (written f) ≡ length s = omega (arith, length-drop at s, ap length e, length-append (written f) []) in
+    ends (field-back [] s at f (omega arith) e ∙ ap (Got f) q) a i
+order-chain {o} (opened {o′ = o′} {f = f} {fs = fs} a i r) s at e =
+    let l = admitted-le o f o′ a in
+    goes (field-back (allWritten fs) s at f (omega arith) e) a i
+    (order-chain r s (at + length (written f)) (sym (drop-drop (length (written f)) at s) ∙ (ap (drop (length (written f))) e ∙ drop-append-seam (written f) (allWritten fs))))
+
+-- fields in order, written, are read back
+pub score-back : {fs : List Field} → InOrder unstamped fs → length (allWritten fs) ≤ 65536 → scoreOf (allWritten fs) ≡ good fs
+score-back {fs} r h = chain-score (order-chain r (allWritten fs) 0 refl) h

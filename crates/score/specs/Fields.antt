@@ -1,0 +1,75 @@
+-- A field of a score: document 01, 'Score and program' and 'Numbers a caller can get back'.
+use Prim.Native.Nat.{ℕ, _+_}
+use mathlib.Core.Bool.{Bool, true, false, cond, not}
+use mathlib.Core.List.{List, [], _∷_, _++_}
+use lib.Dec.{ltb, eqb}
+use lib.ListN.{length, drop}
+use Rattle.refusals.specs.Refusals.{refused}
+use Rattle.refusals.specs.declared.Refusal.{Refusal}
+use Rattle.refusals.specs.declared.Refusal.the-variants.{FieldCut, UnknownTag, FieldLength}
+use Rattle.words.specs.Words.{numberAt, bytesOf}
+use Rattle.score.specs.declared.Field.{Field}
+use Rattle.score.specs.declared.Field.the-variants.{Write, Read, Levels, End}
+use Rattle.score.specs.declared.FieldRead.{FieldRead}
+use Rattle.score.specs.declared.FieldRead.the-variants.{Got, Refused}
+
+-- '0x01 write, length 6', '0x02 read, length 5', '0x03 levels, length 4', '0x7f end, length 4'; 0 of an unknown tag
+unfoldable pub lenOf : ℕ → ℕ
+lenOf tag = cond (eqb tag 0x01) 6 (cond (eqb tag 0x02) 5 (cond (eqb tag 0x03) 4 (cond (eqb tag 0x7f) 4 0)))
+
+-- the field of a known tag, v beginning with its value: 'stamp in 4 bytes, address, value'
+unfoldable pub valueOf : ℕ → List ℕ → Field
+valueOf tag v =
+    cond (eqb tag 0x01) (Write (numberAt 4 v 0) (numberAt 1 v 4) (numberAt 1 v 5))
+    (cond (eqb tag 0x02) (Read (numberAt 4 v 0) (numberAt 1 v 4))
+    (cond (eqb tag 0x03) (Levels (numberAt 4 v 0)) (End (numberAt 4 v 0))))
+
+abbrev pub refuse : Refusal → ℕ → FieldRead
+refuse why place = Refused (refused why place)
+
+-- the length that the tag at a place asks for
+abbrev pub lenAt : List ℕ → ℕ → ℕ
+lenAt s at = lenOf (numberAt 1 s at)
+
+-- 'one-byte tag, two-byte length', then the value: the field at a place and the place after it; or '5 for the header, 6, 7, 5 for the value', each at the tag
+unfoldable pub fieldAt : List ℕ → ℕ → FieldRead
+fieldAt s at =
+    cond (ltb (length s) (at + 3)) (refuse FieldCut at)
+    (cond (eqb (lenAt s at) 0) (refuse UnknownTag at)
+    (cond (not (eqb (numberAt 2 s (at + 1)) (lenAt s at))) (refuse FieldLength at)
+    (cond (ltb (length s) (at + 3 + lenAt s at)) (refuse FieldCut at)
+    (Got (valueOf (numberAt 1 s at) (drop (at + 3) s)) (at + 3 + lenAt s at)))))
+
+abbrev pub tagOf : Field → ℕ
+tagOf (Write t a v) = 0x01
+tagOf (Read t a) = 0x02
+tagOf (Levels t) = 0x03
+tagOf (End t) = 0x7f
+
+abbrev pub stampOf : Field → ℕ
+stampOf (Write t a v) = t
+stampOf (Read t a) = t
+stampOf (Levels t) = t
+stampOf (End t) = t
+
+abbrev pub isEnd : Field → Bool
+isEnd (Write t a v) = false
+isEnd (Read t a) = false
+isEnd (Levels t) = false
+isEnd (End t) = true
+
+-- what follows the stamp
+abbrev pub restOf : Field → List ℕ
+restOf (Write t a v) = a ∷ v ∷ []
+restOf (Read t a) = a ∷ []
+restOf (Levels t) = []
+restOf (End t) = []
+
+-- a field's bytes
+unfoldable pub written : Field → List ℕ
+written f = tagOf f ∷ (bytesOf 2 (lenOf (tagOf f)) ++ (bytesOf 4 (stampOf f) ++ restOf f))
+
+-- the bytes of fields, one after the other
+unfoldable pub allWritten : List Field → List ℕ
+allWritten [] = []
+allWritten (f ∷ fs) = written f ++ allWritten fs

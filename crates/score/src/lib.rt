@@ -1,0 +1,212 @@
+// The score: tagged fields, one read at a place, and the whole checked before the first clock.
+use refusals::Refusal;
+use refusals::Refused;
+ghost use mathlib.Core.Path.{_≡_};
+ghost use Prim.Native.Nat.{_-_};
+ghost use lib.ListN.{length};
+ghost use Rattle.score.specs.Fields.{lenOf, valueOf, refuse, fieldAt, stampOf, isEnd};
+ghost use Rattle.score.specs.Stamps.{unstamped, admit};
+ghost use Rattle.score.specs.Scores.{checked};
+
+pub enum Field {
+    Write { stamp: u32, address: u8, value: u8 },
+    Read { stamp: u32, address: u8 },
+    Levels { stamp: u32 },
+    End { stamp: u32 },
+}
+
+impl Field {
+    pub fn stamp(self) -> u32
+        ensures { λ r. ⌜ r ≡ stampOf self ⌝ }
+    {
+        match self {
+            Field::Write {
+                stamp,
+                address: _,
+                value: _,
+            } => stamp,
+            Field::Read { stamp, address: _ } => stamp,
+            Field::Levels { stamp } => stamp,
+            Field::End { stamp } => stamp,
+        }
+    }
+
+    pub fn is_end(self) -> bool
+        ensures { λ r. ⌜ r ≡ isEnd self ⌝ }
+    {
+        match self {
+            Field::Write {
+                stamp: _,
+                address: _,
+                value: _,
+            } => false,
+            Field::Read {
+                stamp: _,
+                address: _,
+            } => false,
+            Field::Levels { stamp: _ } => false,
+            Field::End { stamp: _ } => true,
+        }
+    }
+}
+
+// A field and the place after it, or the refusal.
+pub enum FieldRead {
+    Got(Field, usize),
+    Refused(Refused),
+}
+
+// The length of a tag's value; 0 of an unknown tag.
+fn len_of(tag: u8) -> usize
+    ensures { λ r. ⌜ r ≡ lenOf tag ⌝ }
+{
+    match tag {
+        0x01 => 6,
+        0x02 => 5,
+        0x03 => 4,
+        0x7f => 4,
+        _ => 0,
+    }
+}
+
+// The field of a known tag, whose value stands first in v.
+fn value_of(tag: u8, v: &[u8]) -> Field
+    ensures { λ r. ⌜ r ≡ valueOf tag (now (v .entry)) ⌝ }
+{
+    let stamp = words::u32_at(v, 0);
+    match tag {
+        0x01 => Field::Write {
+            stamp,
+            address: words::u8_at(v, 4),
+            value: words::u8_at(v, 5),
+        },
+        0x02 => Field::Read {
+            stamp,
+            address: words::u8_at(v, 4),
+        },
+        0x03 => Field::Levels { stamp },
+        _ => Field::End { stamp },
+    }
+}
+
+fn bytes_left(s: &[u8], at: usize) -> usize
+    ensures { λ r. ⌜ r ≡ length (now (s .entry)) - at ⌝ }
+{
+    if s.len() < at {
+        return 0;
+    }
+    s.len() - at
+}
+
+fn refuse(why: Refusal, place: usize) -> FieldRead
+    ensures { λ r. ⌜ r ≡ refuse why place ⌝ }
+{
+    FieldRead::Refused(Refused { why, place })
+}
+
+// What stands at a place of a score.
+pub fn field_at(s: &[u8], at: usize) -> FieldRead
+    ensures { λ r. ⌜ r ≡ fieldAt (now (s .entry)) at ⌝ }
+{
+    let left = bytes_left(s, at);
+    if left < 3 {
+        return refuse(Refusal::FieldCut, at);
+    }
+    let tag = words::u8_at(s, at);
+    let n = len_of(tag);
+    if n == 0 {
+        return refuse(Refusal::UnknownTag, at);
+    }
+    if words::u16_at(s, at + 1) as usize != n {
+        return refuse(Refusal::FieldLength, at);
+    }
+    if left - 3 < n {
+        return refuse(Refusal::FieldCut, at);
+    }
+    let from = at + 3;
+    FieldRead::Got(value_of(tag, &s[from..]), from + n)
+}
+
+// The stamp of the field before, 0 before the first.
+pub struct Order {
+    pub last: u32,
+}
+
+impl Order {
+    pub fn new() -> Self
+        ensures { λ r. ⌜ r ≡ unstamped ⌝ }
+    {
+        Self { last: 0 }
+    }
+}
+
+// The order that the next field meets, or the refusal.
+pub enum Admitted {
+    Next(Order),
+    Refused(Refusal),
+}
+
+// The rules on a field's stamp, for whoever reads or writes fields.
+pub fn admit(o: Order, f: Field) -> Admitted
+    ensures { λ r. ⌜ r ≡ admit o f ⌝ }
+{
+    let stamp = f.stamp();
+    if 100_000_000 < stamp {
+        return Admitted::Refused(Refusal::StampTooLate);
+    }
+    if stamp < o.last {
+        return Admitted::Refused(Refusal::StampFalls);
+    }
+    Admitted::Next(Order { last: stamp })
+}
+
+pub enum Checked {
+    Accepted { clocks: u32 },
+    Refused(Refused),
+}
+
+// The whole score, before the first clock: the first refusal ends the walk.
+pub fn check_score(s: &[u8]) -> Checked
+    ensures { λ r. ⌜ r ≡ checked (now (s .entry)) ⌝ }
+{
+    if 65536 < s.len() {
+        return Checked::Refused(Refused {
+            why: Refusal::ScoreLength,
+            place: 0,
+        });
+    }
+    let mut at: usize = 0;
+    let mut order = Order::new();
+    let answer = loop {
+        if s.len() <= at {
+            break Checked::Refused(Refused {
+                why: Refusal::NoEnd,
+                place: s.len(),
+            });
+        }
+        match field_at(s, at) {
+            FieldRead::Refused(r) => {
+                break Checked::Refused(r);
+            }
+            FieldRead::Got(f, next) => match admit(order, f) {
+                Admitted::Refused(why) => {
+                    break Checked::Refused(Refused { why, place: at });
+                }
+                Admitted::Next(o) => {
+                    if f.is_end() {
+                        if next < s.len() {
+                            break Checked::Refused(Refused {
+                                why: Refusal::AfterEnd,
+                                place: next,
+                            });
+                        }
+                        break Checked::Accepted { clocks: f.stamp() };
+                    }
+                    at = next;
+                    order = o;
+                }
+            },
+        }
+    };
+    answer
+}
