@@ -1,3 +1,4 @@
+pub mod Build
 pub mod Cond
 pub mod Table
 pub mod Times

@@ -1,12 +1,18 @@
 //! The lists by name; each is made in a file of its own.
 
 mod bus;
+mod settling;
+mod waveforms;
 
 use std::ffi::OsStr;
 
 type List = fn() -> Vec<u8>;
 
-const LISTS: [(&str, List); 1] = [("bus", bus::list)];
+const LISTS: [(&str, List); 3] = [
+    ("bus", bus::list),
+    ("settling", settling::list),
+    ("waveforms", waveforms::list),
+];
 
 pub fn named(name: &OsStr) -> Option<List> {
     let found = LISTS.iter().find(|(known, _)| name == *known);

@@ -1,7 +1,7 @@
 //! The original, byte for byte as it stands in its folder, except for its filter.
 //!
 //! Privacy is by module: a file of `observe/` included beside an original reads and builds that
-//! original's private fields. Only the bus has one yet; `observe/envelope.rs`,
+//! original's private fields. Bus and waveforms have one; `observe/envelope.rs`,
 //! `observe/oscillator.rs` and `observe/sid.rs` would go into the modules of those names.
 
 pub mod constants {
@@ -21,8 +21,9 @@ mod oscillator {
     include!(concat!(env!("SID_SOURCE"), "/oscillator.rs"));
 }
 
-mod waveforms {
+pub mod waveforms {
     include!(concat!(env!("SID_SOURCE"), "/waveforms.rs"));
+    include!("observe/waveforms.rs");
 }
 
 mod sid {

@@ -1,0 +1,29 @@
+-- A refusal's number tells which it is: a promise of the number determines the refusal. Assumes nothing.
+use Prim.Native.Nat.{ℕ, _-_}
+use mathlib.Core.Path.{_≡_, refl, ap, sym, _∙_}
+use mathlib.Core.List.{[], _∷_}
+use lib.ListN.{getD}
+use Rattle.refusals.specs.declared.Refusal.{Refusal}
+use Rattle.refusals.specs.declared.Refusal.the-variants.{NoTable, TableLength, VoiceNumber, ScoreLength, FieldCut, UnknownTag, FieldLength, StampTooLate, StampFalls, AfterEnd, NoEnd}
+use Rattle.refusals.specs.Refusals.{numberOf}
+
+named : ℕ → Refusal
+named n =
+    getD (NoTable ∷ TableLength ∷ VoiceNumber ∷ ScoreLength ∷ FieldCut ∷ UnknownTag ∷ FieldLength ∷ StampTooLate ∷ StampFalls ∷ AfterEnd ∷ []) (n - 1) NoEnd
+
+named-number : (r : Refusal) → named (numberOf r) ≡ r
+unfolding named
+named-number NoTable = refl
+named-number TableLength = refl
+named-number VoiceNumber = refl
+named-number ScoreLength = refl
+named-number FieldCut = refl
+named-number UnknownTag = refl
+named-number FieldLength = refl
+named-number StampTooLate = refl
+named-number StampFalls = refl
+named-number AfterEnd = refl
+named-number NoEnd = refl
+
+pub number-tells : (a b : Refusal) → numberOf a ≡ numberOf b → a ≡ b
+number-tells a b e = sym (named-number a) ∙ ap named e ∙ named-number b

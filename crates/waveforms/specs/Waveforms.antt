@@ -1,0 +1,167 @@
+-- Triangle and line loading: document 01, 'Oscillator', 'Line loading' and 'Numbers a caller can get back'; waveforms.rs.
+use Prim.Native.Nat.{ℕ, zero, suc, _+_, _-_, _*_, _/_, _%_, _^_}
+use mathlib.Core.Bool.{Bool, cond, _&&_}
+use mathlib.Core.List.{List}
+use mathlib.Core.Option.{Option, none, some}
+use lib.Dec.{eqb, ltb}
+use lib.IntN.{pos}
+use lib.ListN.{length, getD}
+use lib.Ieee.{Float, nan, binary32, add, sub, mul, neg, lt, le, ofInt}
+use Rattle.laws.specs.Build.{build}
+use Rattle.laws.specs.Times.{times}
+use Rattle.refusals.specs.Refusals.{numberOf}
+use Rattle.waveforms.specs.declared.LineArray.{LineArray}
+use Rattle.waveforms.specs.declared.Filled.{Filled}
+use Rattle.waveforms.specs.declared.Filled.the-variants.{Done, Refused}
+use Rattle.waveforms.specs.Constants.{0·0, 1·0, 2·0, neighbourCoupling, directionalSkews, distanceDecays, retentionThresholds, pulseLoad, noiseLoad, triangleLoad, sawLoad, interactionGain, loadingScales, bySelection}
+
+-- 'Triangle doubles the phase, complemented above 0x7ff' (triangle_from_phase), of the low twelve bits
+unfoldable pub triangle : ℕ → ℕ
+triangle p = cond (ltb 0x7ff (p % 4096)) (0xfff - p % 4096) (p % 4096) * 2
+
+-- ---- 'All arithmetic is f32, each operation rounded once, in the Rust's order from left to right'
+
+infixl 65 _⊕_
+infixl 65 _⊖_
+infixl 70 _⊗_
+abbrev pub _⊕_ : Float → Float → Float
+x ⊕ y = add binary32 x y
+
+abbrev pub _⊖_ : Float → Float → Float
+x ⊖ y = sub binary32 x y
+
+abbrev pub _⊗_ : Float → Float → Float
+x ⊗ y = mul binary32 x y
+
+-- f32::max, where y isn't NaN
+unfoldable pub max : Float → Float → Float
+max x y = cond (le y x) x y
+
+-- f32::clamp: NaN and -0.0 stay
+unfoldable pub clamp : Float → Float → Float → Float
+clamp x low high = cond (lt x low) low (cond (lt high x) high x)
+
+-- ---- 'The power of the distance decay starts from 1.0 and repeatedly halves the exponent, multiplying in the current square when the exponent is odd' (powi)
+
+-- k halvings of the exponent n, from `acc` on
+unfoldable pub power : ℕ → Float → Float → ℕ → Float
+power zero acc square n = acc
+power (suc k) acc square n = power k (cond (eqb (n % 2) 1) (acc ⊗ square) acc) (square ⊗ square) (n / 2)
+
+-- n halvings leave nothing of n
+unfoldable pub powi : Float → ℕ → Float
+powi base n = power n 1·0 base n
+
+-- ---- the line array of a selection (LineArray::new)
+
+-- two lines so far apart
+unfoldable pub coupled : ℕ → Float → ℕ → Float
+coupled s direction distance =
+    neighbourCoupling ⊗ powi (bySelection distanceDecays s) (distance - 1) ⊗ (1·0 ⊕ direction ⊗ bySelection directionalSkews s)
+
+-- coupling[destination][source]: the direction is -1.0 where the source is the lower line; a line doesn't pull itself
+unfoldable pub coupling : ℕ → ℕ → ℕ → Float
+coupling s destination source =
+    cond (eqb destination source) 0·0
+    (cond (ltb source destination) (coupled s (neg 1·0) (destination - source)) (coupled s 1·0 (source - destination)))
+
+-- a waveform that isn't selected adds 0.0
+unfoldable pub loadIf : Bool → Float → Float
+loadIf on load = cond on load 0·0
+
+unfoldable pub staticLoad : ℕ → Float
+staticLoad s =
+    loadIf (eqb (s % 2) 1) triangleLoad ⊕ loadIf (eqb (s / 2 % 2) 1) sawLoad ⊕ loadIf (eqb (s / 4 % 2) 1) pulseLoad ⊕ loadIf (eqb (s / 8 % 2) 1) noiseLoad
+
+-- 'one flat array of 144': that of source r and destination d stands at 12 r + d
+unfoldable pub arrayOf : ℕ → LineArray
+arrayOf s = record { selection = s; coupling = build (λ k. coupling s (k % 12) (k / 12)) 144; «static_load» = staticLoad s }
+
+-- the couplings by how far the destination lies above the source, from -11 to 11, of which the 144 are made
+abbrev pub byOffset : ℕ → List Float
+byOffset s = build (λ k. coupling s k 11) 23
+
+-- ---- 'Three passes settle twelve line charges' (LineArray::settle)
+
+-- how many waveforms a selection has, of its low four bits (count_ones)
+unfoldable pub drivers : ℕ → ℕ
+drivers s = s % 2 + s / 2 % 2 + s / 4 % 2 + s / 8 % 2
+
+-- source_excess
+unfoldable pub sourceExcess : ℕ → Float
+sourceExcess s = max (ofInt binary32 (pos (drivers s)) ⊖ 2·0) 0·0
+
+-- interaction_scale
+unfoldable pub interactionScale : ℕ → Float
+interactionScale s = 1·0 ⊕ interactionGain ⊗ sourceExcess s ⊗ sourceExcess s
+
+-- 1.0 where the value has the line
+unfoldable pub chargeAt : ℕ → ℕ → Float
+chargeAt value bit = ofInt binary32 (pos (value / 2 ^ bit % 2))
+
+-- a line's discharge with one source more
+abbrev pub pulled : Float → Float → Float → Float
+pulled discharge previous coupling = discharge ⊕ (1·0 ⊖ previous) ⊗ coupling
+
+-- the discharge of a line by its first n sources
+unfoldable pub discharge : List Float → Float → List Float → ℕ → ℕ → Float
+discharge couplings load previous destination zero = load
+discharge couplings load previous destination (suc n) =
+    pulled (discharge couplings load previous destination n) (getD previous n nan) (getD couplings (n * 12 + destination) nan)
+
+-- a line at or below 0.0 stays
+unfoldable pub drained : Float → Float → Float → Float → Float
+drained interaction loading previous discharge =
+    cond (le previous 0·0) previous (clamp (previous ⊖ discharge ⊗ interaction ⊗ loading) 0·0 1·0)
+
+-- all lines of a pass see the pass before
+unfoldable pub pass : List Float → Float → Float → Float → List Float → List Float
+pass couplings load interaction loading previous =
+    build (λ d. drained interaction loading (getD previous d nan) (discharge couplings load previous d 12)) 12
+
+-- 'a line at or above the selection's retention threshold is 1'
+unfoldable pub retained : Float → Float → ℕ → ℕ
+retained threshold level bit = cond (le threshold level) (2 ^ bit) 0
+
+-- the code of the first n lines
+unfoldable pub code : Float → List Float → ℕ → ℕ
+code threshold charges zero = 0
+code threshold charges (suc n) = code threshold charges n + retained threshold (getD charges n nan) n
+
+unfoldable pub settledBy : LineArray → ℕ → ℕ
+settledBy a value =
+    code (bySelection retentionThresholds (a .selection))
+    (times 3 (pass (a .coupling) (a .«static_load») (interactionScale (a .selection)) (bySelection loadingScales (a .selection))) (build (chargeAt value) 12)) 12
+
+-- 'the settled i' of a selection
+unfoldable pub settled : ℕ → ℕ → ℕ
+settled s value = settledBy (arrayOf s) value
+
+-- ---- for the tick: the selection counts by its low four bits, the value by its low twelve
+
+-- needs_line_loading
+unfoldable pub needsLoading : ℕ → Bool
+needsLoading s = ltb 1 (drivers s)
+
+-- apply_line_loading: a single waveform passes unchanged. 'The voice doesn't load' the lines of selection 9: it doesn't ask
+unfoldable pub loaded : ℕ → ℕ → ℕ
+loaded s value = cond (needsLoading s) (settled s value) (value % 4096)
+
+-- ---- 'One selection fills a lent table of 4096 entries, entry i being the settled i for every i' (LineArray::generate)
+
+-- not 'a selection above 15 or with under two bits'; 'selection 9 has a table'
+unfoldable pub hasTable : ℕ → Bool
+hasTable s = ltb s 16 && needsLoading s
+
+-- number and place of the refusal, if any: 1 'table for a selection above 15 or with under two bits', 2 'table part not 4096 entries', both at 0; '1 comes before 2'
+unfoldable pub refusal : ℕ → ℕ → Option (ℕ × ℕ)
+refusal s size = cond (hasTable s) (cond (eqb size 4096) none (some (2, 0))) (some (1, 0))
+
+-- number and place of each answer
+abbrev pub told : Filled → Option (ℕ × ℕ)
+told Done = none
+told (Refused r) = some (numberOf (r .why), r .place)
+
+-- 'A refusal changes no state, table or output memory'
+unfoldable pub tableAfter : ℕ → List ℕ → List ℕ
+tableAfter s before = cond (hasTable s && eqb (length before) 4096) (build (settled s) 4096) before
