@@ -8,5 +8,6 @@ test:
 lists:
 	cd tools/oracle && cargo build --release
 	tools/oracle/target/release/oracle list bus > crates/bus_cases/data/bus
+	tools/oracle/target/release/oracle list envelope > crates/envelope_cases/data/envelope
 	tools/oracle/target/release/oracle list waveforms > crates/waveforms_cases/data/waveforms
 	tools/oracle/target/release/oracle list settling > crates/waveforms_cases/data/settling

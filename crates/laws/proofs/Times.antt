@@ -14,6 +14,11 @@ module _ {A : Type 0} (f : A → A) where
   unfolding times
   times-step n x = rw add-one
 
+  pub times-first : (n : ℕ) (x : A) → times (suc n) f x ≡ times n f (f x)
+  unfolding times
+  times-first zero x = refl
+  times-first (suc n) x = ap f (times-first n x)
+
   -- n steps after m are n + m
   pub times-add : (n m : ℕ) (x : A) → times n f (times m f x) ≡ times (m + n) f x
   unfolding times

@@ -1,6 +1,7 @@
 //! The lists by name; each is made in a file of its own.
 
 mod bus;
+mod envelope;
 mod settling;
 mod waveforms;
 
@@ -8,8 +9,9 @@ use std::ffi::OsStr;
 
 type List = fn() -> Vec<u8>;
 
-const LISTS: [(&str, List); 3] = [
+const LISTS: [(&str, List); 4] = [
     ("bus", bus::list),
+    ("envelope", envelope::list),
     ("settling", settling::list),
     ("waveforms", waveforms::list),
 ];

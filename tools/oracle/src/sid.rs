@@ -1,8 +1,7 @@
 //! The original, byte for byte as it stands in its folder, except for its filter.
 //!
 //! Privacy is by module: a file of `observe/` included beside an original reads and builds that
-//! original's private fields. Bus and waveforms have one; `observe/envelope.rs`,
-//! `observe/oscillator.rs` and `observe/sid.rs` would go into the modules of those names.
+//! original's private fields.
 
 pub mod constants {
     include!(concat!(env!("SID_SOURCE"), "/constants.rs"));
@@ -13,8 +12,9 @@ pub mod bus {
     include!("observe/bus.rs");
 }
 
-mod envelope {
+pub mod envelope {
     include!(concat!(env!("SID_SOURCE"), "/envelope.rs"));
+    include!("observe/envelope.rs");
 }
 
 mod oscillator {

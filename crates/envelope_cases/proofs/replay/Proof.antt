@@ -1,0 +1,36 @@
+use Prim.Native.Nat.{_+_, _*_, _≤_}
+use lib.ListN.{length}
+use borrow.Author.Needs.{needs}
+use Rattle.envelope_cases.proofs.replay.Statement.{statement}
+use Rattle.envelope_cases.proofs.replay.Tie as tie
+
+abbrev Inv-loop : tie.InvT-loop
+Inv-loop list tally₀ e₀ rest₀ at₀ tally e rest at = at + rest * 21 ≤ length list
+
+abbrev μ-loop : tie.MeasureT-loop
+μ-loop list tally₀ e₀ rest₀ at₀ tally e rest at = rest
+
+pub replay-spec : {M : Type 1} → statement M
+replay-spec =
+    tie.close
+    (tie.spec
+    Inv-loop
+    μ-loop
+    (λ c κs. search needs)
+    (λ c κs. search needs)
+    (λ c. search needs)
+    (λ c. search needs)
+    (λ c. search needs)
+    (λ c. search needs)
+    (λ c. search needs)
+    (λ c κs. search needs)
+    (λ c κs. search needs)
+    (λ c κs. search needs)
+    (λ c κs. search needs)
+    (λ c κs. search needs)
+    (λ c κs. search needs)
+    (λ c κs. search needs)
+    (λ c. search needs)
+    (λ c. search needs)
+    (λ c. search needs)
+    (λ c. search needs))

@@ -1,0 +1,127 @@
+// Replays data/envelope, the oracle's calls on one envelope: the whole state after each.
+// The list is made by tools/oracle: cargo run --release -- list envelope
+// A record of 21 bytes: the call, its operand (2), and the state after it, as `state` reads it.
+use cases::Tally;
+use envelope::Envelope;
+use envelope::EnvelopeMotion;
+use envelope::GateHistory;
+
+fn motion(place: u8) -> EnvelopeMotion {
+    match place {
+        0 => EnvelopeMotion::Rising,
+        1 => EnvelopeMotion::FallingToSustain,
+        _ => EnvelopeMotion::FallingToZero,
+    }
+}
+
+fn place(motion: EnvelopeMotion) -> u8 {
+    match motion {
+        EnvelopeMotion::Rising => 0,
+        EnvelopeMotion::FallingToSustain => 1,
+        EnvelopeMotion::FallingToZero => 2,
+    }
+}
+
+fn state(record: &[u8]) -> Envelope {
+    let flags = words::u8_at(record, 8);
+    let motions = words::u8_at(record, 9);
+    let gate = GateHistory {
+        input: flags % 2 == 1,
+        stage_a: flags / 2 % 2 == 1,
+        stage_b: flags / 4 % 2 == 1,
+    };
+    Envelope {
+        volume: words::u8_at(record, 3),
+        rise_rate: words::u8_at(record, 4),
+        decay_rate: words::u8_at(record, 5),
+        hold_level: words::u8_at(record, 6),
+        fall_rate: words::u8_at(record, 7),
+        gate,
+        motion: motion(motions % 4),
+        requested_motion: motion(motions / 4),
+        motion_delay: words::u8_at(record, 10),
+        rate_phase: words::u16_at(record, 11),
+        rate_target_phase: words::u16_at(record, 13),
+        matched_rate: flags / 8 % 2 == 1,
+        amplitude_delay: words::u8_at(record, 15),
+        curve_delay: words::u8_at(record, 16),
+        curve_count: words::u8_at(record, 17),
+        curve_divisor: words::u8_at(record, 18),
+        queued_curve_divisor: words::u8_at(record, 19),
+        floor_hold: flags / 16 % 2 == 1,
+        readback: words::u8_at(record, 20),
+    }
+}
+
+fn made(record: &[u8], e: Envelope, after: Envelope) -> Envelope {
+    let operand = words::u16_at(record, 1);
+    let byte = (operand % 256) as u8;
+    match words::u8_at(record, 0) {
+        0 => Envelope::new(),
+        1 => e.reset(),
+        2 => e.set_attack_decay(byte),
+        3 => e.set_sustain_release(byte),
+        4 => e.set_gate(byte == 1),
+        5 => release::clock_times(e, operand as u32),
+        _ => after,
+    }
+}
+
+fn same_settings(a: Envelope, b: Envelope) -> bool {
+    let rates = a.rise_rate == b.rise_rate
+        && a.decay_rate == b.decay_rate
+        && a.fall_rate == b.fall_rate;
+    let gate = a.gate_is_high() == b.gate.input
+        && a.gate.stage_a == b.gate.stage_a
+        && a.gate.stage_b == b.gate.stage_b;
+    rates && gate && a.hold_level == b.hold_level
+}
+
+fn same_motion(a: Envelope, b: Envelope) -> bool {
+    let m = a.motion;
+    let n = b.motion;
+    let p = a.requested_motion;
+    let q = b.requested_motion;
+    place(m) == place(n) && place(p) == place(q) && a.motion_delay == b.motion_delay
+}
+
+fn same_counters(a: Envelope, b: Envelope) -> bool {
+    let rate = a.rate_phase == b.rate_phase
+        && a.rate_target_phase == b.rate_target_phase
+        && a.matched_rate == b.matched_rate;
+    let delays = a.amplitude_delay == b.amplitude_delay && a.curve_delay == b.curve_delay;
+    let divisors = a.curve_divisor == b.curve_divisor
+        && a.queued_curve_divisor == b.queued_curve_divisor;
+    rate && delays && divisors && a.curve_count == b.curve_count
+}
+
+fn same_level(a: Envelope, b: Envelope) -> bool {
+    a.level() == b.volume && a.held() == b.floor_hold && a.read_level() == b.readback
+}
+
+fn replay(list: &[u8]) -> Tally {
+    let mut tally = Tally::new();
+    let mut e = Envelope::new();
+    let mut rest = list.len() / 21;
+    let mut at: usize = 0;
+    while 0 < rest {
+        let next = at + 21;
+        let record = &list[at..next];
+        let after = state(record);
+        e = made(record, e, after);
+        let same = same_settings(e, after)
+            && same_motion(e, after)
+            && same_counters(e, after)
+            && same_level(e, after);
+        tally = tally.count(same);
+        at = next;
+        rest = rest - 1;
+    }
+    tally
+}
+
+fn main() {
+    let mut list = [0u8; 65536];
+    let n = cases::load(b"envelope", &mut list);
+    cases::report(b"envelope", replay(&list[..n]));
+}

@@ -1,0 +1,89 @@
+-- The starred cases of the envelope, from the laws. Assumes nothing.
+use Prim.Native.Nat.{ℕ, _+_, _-_, _*_, _<_}
+use native.Mathlib.Omega.{arith}
+use mathlib.Core.Path.{_≡_, refl, subst}
+use Rattle.laws.specs.Times.{times}
+use Rattle.envelope.specs.Envelope.{periodOf, divisorFor, down, fresh, targetRefreshed, sustainReleaseSet}
+use Rattle.envelope.proofs.Periods.{period-range, period-zero}
+use Rattle.release.specs.Release.{Settled, steps, inForce, divisorAfter, asked, matches, wait, lag, stepClock}
+use Rattle.release.specs.Cases.{Matching, Releasing, ZeroFrom, Falling, Sustaining, Edges}
+use Rattle.release.proofs.Waits.{first-match}
+use Rattle.release.proofs.Stays.{sustain-stays}
+use Rattle.release.proofs.Demand3.{zero-from}
+
+matching : (p : ℕ) → p < 32767 → Matching p 8 (wait 9 p + 1)
+matching p l e q f t = rw (← f) (first-match e q 9 t (omega arith) (omega arith) (omega arith))
+
+releasing : (d : ℕ) → Releasing 1 d (wait 9 0 + 2 + (d - 1) * 9 + lag d)
+unfolding stepClock matches asked divisorAfter steps
+releasing d e h v k c p =
+    let n : e .volume ≡ 0 → ⊥ = omega arith in
+    let s : stepClock e (periodOf 0) (steps (e .volume)) ≡ wait 9 0 + 2 + (d - 1) * 9 + lag d = simp (v, k, c, p, period-zero) (omega arith) in
+    subst (ZeroFrom e) s (zero-from e (periodOf 0) h n)
+
+fresh-settled : Settled fresh (periodOf 0)
+unfolding fresh
+fresh-settled = record {
+  input = refl;
+  stage-a = refl;
+  stage-b = refl;
+  motion = refl;
+  motion-delay = refl;
+  level-delay = refl;
+  curve-delay = refl;
+  unqueued = refl;
+  unmatched = refl;
+  unheld = refl;
+  target = refl;
+  least = period-range 0 .0;
+  most = period-range 0 .1;
+  phase = omega arith;
+  divisor = refl;
+  count = omega arith;
+  level = omega arith;
+}
+
+-- the three falls, computed
+fresh-asked : asked 0xaa 1 0xaa ≡ 671
+unfolding asked divisorAfter inForce divisorFor down times
+fresh-asked = refl
+
+top-asked : asked 0xff 1 0xff ≡ 756
+unfolding asked divisorAfter inForce divisorFor down times
+top-asked = refl
+
+zero-asked : asked 0x00 30 0x100 ≡ 786
+unfolding asked divisorAfter inForce divisorFor down times
+zero-asked = refl
+
+fresh-last : divisorAfter 0xaa 1 0xa9 ≡ 30
+unfolding divisorAfter inForce divisorFor down times
+fresh-last = refl
+
+fresh-zero : ZeroFrom fresh 6043
+unfolding fresh stepClock matches steps wait lag
+fresh-zero =
+    let s : stepClock fresh (periodOf 0) 0xaa ≡ 6043 = rw (fresh-asked, fresh-last, period-zero) in
+    subst (ZeroFrom fresh) s (zero-from fresh (periodOf 0) fresh-settled (omega arith))
+
+falling : (v d : ℕ) → Falling v d (asked v d (steps v))
+unfolding matches
+falling v d e a b c = rw (a, b, c) (omega arith)
+
+sustaining : (s : ℕ) → Sustaining (s * 16) (s * 17)
+unfolding sustainReleaseSet targetRefreshed
+sustaining s e g h m d v n = sustain-stays (s * 17) n (sustainReleaseSet e (s * 16)) (v, omega arith, g, h, m, d) .0
+
+pub edges : Edges
+unfolding matches steps wait lag fresh
+edges = (
+  matching 9 (omega arith),
+  matching 8 (omega arith),
+  releasing 1,
+  releasing 30,
+  fresh-zero,
+  rw fresh-asked,
+  subst (Falling 0xff 1) top-asked (falling 0xff 1),
+  subst (Falling 0x00 30) zero-asked (falling 0x00 30),
+  sustaining 15,
+)
