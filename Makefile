@@ -9,5 +9,7 @@ lists:
 	cd tools/oracle && cargo build --release
 	tools/oracle/target/release/oracle list bus > crates/bus_cases/data/bus
 	tools/oracle/target/release/oracle list envelope > crates/envelope_cases/data/envelope
+	tools/oracle/target/release/oracle list oscillator_calls > crates/oscillator_cases/data/calls
+	tools/oracle/target/release/oracle list oscillator_states > crates/oscillator_cases/data/states
 	tools/oracle/target/release/oracle list waveforms > crates/waveforms_cases/data/waveforms
 	tools/oracle/target/release/oracle list settling > crates/waveforms_cases/data/settling

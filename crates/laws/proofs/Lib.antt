@@ -1,4 +1,6 @@
 pub mod Build
 pub mod Cond
+pub mod Loops
+pub mod Masks
 pub mod Table
 pub mod Times

@@ -1,2 +1,4 @@
 pub mod Build
+pub mod Charges
+pub mod Cycle
 pub mod Times

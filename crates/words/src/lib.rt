@@ -43,3 +43,12 @@ pub fn u32_at(s: &[u8], at: usize) -> u32
     }
     0
 }
+
+pub fn u64_at(s: &[u8], at: usize) -> u64
+    ensures { λ r. ⌜ r ≡ numberAt 8 (now (s .entry)) at ⌝ }
+{
+    if whole(s, at, 8) {
+        return (u32_at(s, at) as u64) + 4294967296 * (u32_at(s, at + 4) as u64);
+    }
+    0
+}

@@ -2,6 +2,7 @@
 
 mod bus;
 mod envelope;
+mod oscillator;
 mod settling;
 mod waveforms;
 
@@ -9,9 +10,11 @@ use std::ffi::OsStr;
 
 type List = fn() -> Vec<u8>;
 
-const LISTS: [(&str, List); 4] = [
+const LISTS: [(&str, List); 6] = [
     ("bus", bus::list),
     ("envelope", envelope::list),
+    ("oscillator_calls", oscillator::calls),
+    ("oscillator_states", oscillator::states),
     ("settling", settling::list),
     ("waveforms", waveforms::list),
 ];

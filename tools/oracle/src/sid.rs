@@ -17,8 +17,9 @@ pub mod envelope {
     include!("observe/envelope.rs");
 }
 
-mod oscillator {
+pub mod oscillator {
     include!(concat!(env!("SID_SOURCE"), "/oscillator.rs"));
+    include!("observe/oscillator.rs");
 }
 
 pub mod waveforms {

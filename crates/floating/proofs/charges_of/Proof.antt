@@ -1,0 +1,41 @@
+use borrow.Author.Needs.{needs}
+use borrow.Author.Tests.{eq-eqb, ne-eqb}
+use native.Mathlib.Omega.{arith}
+use Prim.Native.Nat.{_-_}
+use mathlib.Core.Logic.{⊎-elim}
+use Rattle.laws.proofs.Build.{Built, built-none, built-more, built-all}
+use Rattle.laws.specs.Charges.{chargeFor, charged}
+use Rattle.floating.proofs.charges_of.Statement.{statement}
+use Rattle.floating.proofs.charges_of.Tie as tie
+
+abbrev Inv-loop : tie.InvT-loop
+Inv-loop value charge₀ bit₀ charge bit = Built (chargeFor value) 12 charge bit
+
+abbrev μ-loop : tie.MeasureT-loop
+μ-loop value charge₀ bit₀ charge bit = 12 - bit
+
+loop-holds : tie.Need-loop-holds Inv-loop μ-loop
+loop-holds c = built-none _ 12 _ (search needs)
+
+loop-again : tie.Need-loop-again Inv-loop μ-loop
+loop-again c = built-more (chargeFor (c .before .before .before .args .value)) 12 (c .before .before .loop .inv) (omega arith) _ (⊎-elim (λ w. simp (eq-eqb _ _ (w .0 .taken), w .1)) (λ w. simp (ne-eqb _ _ (w .0 .left), w .1)) (c .if1 .came))
+
+returns : tie.Need-returns Inv-loop μ-loop
+unfolding charged
+returns c = built-all (chargeFor (c .before .before .args .value)) 12 (c .before .loop .inv) (c .loop-test .left)
+
+pub charges-of-spec : {M : Type 1} → statement M
+charges-of-spec =
+    tie.close
+    (tie.spec
+    Inv-loop
+    μ-loop
+    loop-holds
+    (λ c. search needs)
+    (λ c. search needs)
+    (λ c. search needs)
+    (λ c. search needs)
+    (λ c. search needs)
+    (λ c. search needs)
+    loop-again
+    returns)

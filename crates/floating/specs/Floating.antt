@@ -1,0 +1,63 @@
+-- The floating lines: document 01, 'Oscillator'; FloatingBus of oscillator.rs. Its numbers (Floating) stand apart from the twelve charges.
+use Prim.Native.Nat.{ℕ, zero, suc, _+_, _-_, _*_, _/_, _%_, max}
+use mathlib.Core.Bool.{Bool, cond, not, _&&_}
+use mathlib.Core.List.{List}
+use lib.Dec.{eqb, leb}
+use lib.ListN.{getD}
+use Rattle.laws.specs.Build.{build}
+use Rattle.laws.specs.Times.{times}
+use Rattle.laws.specs.Cycle.{never, after}
+use Rattle.laws.specs.Charges.{charged, highTo}
+use Rattle.floating.specs.declared.Floating.{Floating}
+use Rattle.floating.specs.declared.FloatingBus.{FloatingBus}
+
+-- the lines freshly made, and once another waveform is selected (new, reset)
+unfoldable pub fresh : FloatingBus
+fresh = record { numbers = record { value = 0; «hold_until» = never; «next_leak» = never }; charge = charged 0 12 }
+
+-- 'Selecting waveform 0 from another captures the last code on floating lines' (capture)
+unfoldable pub captured : ℕ → ℕ → FloatingBus
+captured code cycle = record {
+  numbers = record { value = code % 4096; «hold_until» = after cycle 1137140; «next_leak» = after (after cycle 1137140) 8192 };
+  charge = charged (code % 4096) 12;
+}
+
+-- in one leak step a line loses a twelfth of its charge, and at least one (sample)
+abbrev pub lost : ℕ → ℕ
+lost q = q - max (q / 12) 1
+
+unfoldable pub leakStep : List ℕ → List ℕ
+leakStep charge = build (λ i. lost (getD charge i 0)) 12
+
+-- whether a leak is due
+unfoldable pub leaks : Floating → ℕ → Bool
+leaks f cycle = not (eqb (f .value) 0) && (leb (f .«hold_until») cycle && leb (f .«next_leak») cycle)
+
+-- the code of the lines that still hold their charge
+abbrev pub retained : List ℕ → ℕ
+retained charge = highTo 18000 charge 12 % 4096
+
+-- the lines once they have leaked to these charges, and the next leak would be at a time
+unfoldable pub leakedTo : Floating → List ℕ → ℕ → FloatingBus
+leakedTo f charge at = record {
+  numbers = record { value = retained charge; «hold_until» = f .«hold_until»; «next_leak» = cond (eqb (retained charge) 0) never at };
+  charge = charge;
+}
+
+-- the leak steps elapsed at a cycle, counted from the next leak on
+abbrev pub leakSteps : ℕ → ℕ → ℕ
+leakSteps at cycle = (cycle - at) / 8192 + 1
+
+-- the lines sampled at a cycle; what they give is the value they then have
+unfoldable pub sampled : FloatingBus → ℕ → FloatingBus
+sampled b cycle =
+    cond (leaks (b .numbers) cycle)
+    (leakedTo (b .numbers)
+    (times (leakSteps (b .numbers .«next_leak») cycle) leakStep (b .charge))
+    (after (b .numbers .«next_leak») (leakSteps (b .numbers .«next_leak») cycle * 8192)))
+    b
+
+-- the lines sampled on each of the n clocks that follow a cycle
+unfoldable pub samples : ℕ → FloatingBus → ℕ → FloatingBus
+samples zero b cycle = b
+samples (suc n) b cycle = sampled (samples n b cycle) (after cycle (suc n))

@@ -1,0 +1,4 @@
+pub mod Moves
+pub mod Shift
+pub mod Still
+pub mod Taps

@@ -1,0 +1,4 @@
+pub mod Feedback
+pub mod Floats
+pub mod Pulse
+pub mod Still

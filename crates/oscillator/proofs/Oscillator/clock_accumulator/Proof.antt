@@ -1,0 +1,12 @@
+use borrow.Author.Needs.{needs}
+use Rattle.oscillator.specs.Oscillator.{clocked}
+use Rattle.oscillator.proofs.Oscillator.clock_accumulator.Statement.{statement}
+use Rattle.oscillator.proofs.Oscillator.clock_accumulator.Tie as tie
+
+returns : tie.Need-returns
+unfolding clocked
+returns c = simp (c .step .ensures, c .before .rising .ensures, c .before .before .clocked .ensures)
+
+pub clock-accumulator-spec : {M : Type 1} → statement M
+clock-accumulator-spec =
+    tie.close (tie.spec (λ c κs. search needs) (λ c κs. search needs) (λ c κs. search needs) returns)

@@ -1,0 +1,12 @@
+use borrow.Author.Needs.{needs}
+use Rattle.oscillator.specs.Oscillator.{evaluated}
+use Rattle.oscillator.proofs.Oscillator.evaluate_output.Statement.{statement}
+use Rattle.oscillator.proofs.Oscillator.evaluate_output.Tie as tie
+
+returns : tie.Need-returns
+unfolding evaluated
+returns c = simp (c .code .ensures, c .before .compared .ensures, c .before .before .before .sampled-bus .ensures)
+
+pub evaluate-output-spec : {M : Type 1} → statement M
+evaluate-output-spec =
+    tie.close (tie.spec (λ c κs. search needs) (λ c κs. search needs) (λ c κs. search needs) returns)

@@ -1,0 +1,2 @@
+pub mod Oscillator
+pub mod Selection

@@ -1,0 +1,279 @@
+-- The oscillator of one voice: document 01, 'Oscillator'; Oscillator of oscillator.rs.
+-- Its fields stand in two records of numbers, Control (what the registers say) and Tone (what a clock changes), beside the noise register and the floating lines.
+use Prim.Native.Nat.{ℕ, zero, suc, _+_, _-_, _/_, _%_, _^_}
+use mathlib.Core.Bool.{Bool, false, cond, not, _&&_, _||_}
+use lib.Bits.{bitAnd, bitOr, bitXor}
+use lib.Dec.{eqb, leb}
+use Rattle.laws.specs.Cycle.{after}
+use Rattle.waveforms.specs.Waveforms.{triangle, needsLoading, loaded}
+use Rattle.noise.specs.Noise.{fresh as Noise·fresh, enteredTest, leftTest, coupled, pulledDown, stepped, pulseLoadAperture}
+use Rattle.noise.specs.declared.Noise.{Noise}
+use Rattle.noise.specs.declared.NoiseGenerator.{NoiseGenerator}
+use Rattle.floating.specs.Floating.{fresh as Floating·fresh, captured, leaks, sampled}
+use Rattle.floating.specs.declared.Floating.{Floating}
+use Rattle.floating.specs.declared.FloatingBus.{FloatingBus}
+use Rattle.oscillator.specs.Selection.{select, isOff, has, isCombined, combined}
+use Rattle.oscillator.specs.declared.WaveformSelect.{WaveformSelect}
+use Rattle.oscillator.specs.declared.Control.{Control}
+use Rattle.oscillator.specs.declared.Tone.{Tone}
+use Rattle.oscillator.specs.declared.Oscillator.{Oscillator}
+use Rattle.oscillator.specs.declared.Evaluated.{Evaluated}
+
+-- the selection that the control register holds
+abbrev pub selected : Control → WaveformSelect
+selected c = select (c .waveform)
+
+-- ---- 'The phase is 24 bits: freshly made 0x555555, kept by reset.'
+
+-- freshly made, but for its phase (new, reset)
+unfoldable pub fresh : ℕ → Oscillator
+fresh accumulator = record {
+  control = record { frequency = 0; «pulse_width» = 0; waveform = 0; «sync_enabled» = false; «ring_enabled» = false; «test_enabled» = false };
+  tone = record { accumulator = accumulator; «msb_rising» = false; «last_sample» = 0; «pulse_output» = 0xfff; cycle = 0; readback = 0 };
+  noise = Noise·fresh;
+  bus = Floating·fresh;
+}
+
+-- what rises from one phase to the next
+abbrev pub rising : ℕ → ℕ → ℕ
+rising old new = bitAnd (2 ^ 32 - 1 - old) new
+
+-- one clock of the phase: in test it is kept at 0 (clock_accumulator, reset_phase)
+unfoldable pub clockedTone : Tone → Control → Tone
+clockedTone t c = record {
+  accumulator = cond (c .«test_enabled») 0 ((t .accumulator + c .frequency) % 2 ^ 24);
+  «msb_rising» = cond (c .«test_enabled») false (not (eqb (rising (t .accumulator) ((t .accumulator + c .frequency) % 2 ^ 24) / 2 ^ 23 % 2) 0));
+  «last_sample» = t .«last_sample»;
+  «pulse_output» = t .«pulse_output»;
+  cycle = after (t .cycle) 1;
+  readback = t .readback;
+}
+
+unfoldable pub clocked : Oscillator → Oscillator
+clocked o = record {
+  control = o .control;
+  tone = clockedTone (o .tone) (o .control);
+  noise = stepped (o .noise) (o .control .«test_enabled») (rising (o .tone .accumulator) (clockedTone (o .tone) (o .control) .accumulator)) (clockedTone (o .tone) (o .control) .cycle);
+  bus = o .bus;
+}
+
+-- ---- 'The 12-bit phase is its top half.' (phase)
+
+abbrev pub phase : Tone → ℕ
+phase t = t .accumulator / 2 ^ 12 % 4096
+
+-- ---- 'ring (triangle without saw) flips bit 11 while the modulator's top bit is low' (waveform_at_phase)
+
+unfoldable pub rings : Control → ℕ → Bool
+rings c modulator = c .«ring_enabled» && (has (selected c) 1 && (not (has (selected c) 2) && eqb (modulator / 2 ^ 23 % 2) 0))
+
+unfoldable pub trianglePhase : Control → ℕ → ℕ → ℕ
+trianglePhase c p modulator = cond (rings c modulator) (bitXor p 0x800) p
+
+-- ---- 'Pulse is the comparison made one evaluation earlier, forced high in test.' (waveform_at_phase, evaluate_output)
+
+abbrev pub pulse : Control → Tone → ℕ
+pulse c t = cond (c .«test_enabled») 0xfff (t .«pulse_output»)
+
+unfoldable pub comparedTone : Tone → Control → Tone
+comparedTone t c = record {
+  accumulator = t .accumulator;
+  «msb_rising» = t .«msb_rising»;
+  «last_sample» = t .«last_sample»;
+  «pulse_output» = cond (leb (c .«pulse_width») (phase t)) 0xfff 0;
+  cycle = t .cycle;
+  readback = t .readback;
+}
+
+-- ---- the code: the joined lines, loaded but for triangle with noise; what floats where nothing is selected (waveform_at_phase, evaluate_output)
+
+unfoldable pub ideal : Control → Tone → ℕ → ℕ → ℕ
+ideal c t visible modulator =
+    combined (selected c) (triangle (trianglePhase c (phase t) modulator)) (phase t) (pulse c t) visible (t .«last_sample»)
+
+abbrev pub lines : WaveformSelect → ℕ → ℕ
+lines s ideal = cond (eqb (s .raw) 9) ideal (cond (needsLoading (s .raw)) (loaded (s .raw) ideal) ideal)
+
+unfoldable pub waveformAt : Control → Tone → ℕ → ℕ → ℕ
+waveformAt c t visible modulator = lines (selected c) (ideal c t visible modulator) % 4096
+
+unfoldable pub code : Control → Tone → ℕ → ℕ → ℕ → ℕ
+code c t visible floats modulator = cond (isOff (selected c)) (floats % 4096) (waveformAt c t visible modulator)
+
+unfoldable pub sampledBus : FloatingBus → Control → ℕ → FloatingBus
+sampledBus b c cycle = cond (isOff (selected c)) (sampled b cycle) b
+
+unfoldable pub evaluated : Oscillator → ℕ → Evaluated
+evaluated o modulator = record {
+  code = code (o .control) (o .tone) (o .noise .numbers .visible) (sampledBus (o .bus) (o .control) (o .tone .cycle) .numbers .value) modulator;
+  oscillator = record {
+    control = o .control;
+    tone = comparedTone (o .tone) (o .control);
+    noise = o .noise;
+    bus = sampledBus (o .bus) (o .control) (o .tone .cycle);
+  };
+}
+
+-- ---- 'A saw joined with another waveform whose code lacks bit 11 clears the phase's top bit and its rising mark.' (apply_combined_feedback)
+
+unfoldable pub feedsBack : Control → ℕ → Bool
+feedsBack c output = has (selected c) 2 && (isCombined (selected c) && eqb (output / 2 ^ 11 % 2) 0)
+
+unfoldable pub fedBackTone : Tone → Control → ℕ → Tone
+fedBackTone t c output = record {
+  accumulator = cond (feedsBack c output) (t .accumulator % 2 ^ 23) (t .accumulator);
+  «msb_rising» = cond (feedsBack c output) false (t .«msb_rising»);
+  «last_sample» = t .«last_sample»;
+  «pulse_output» = t .«pulse_output»;
+  cycle = t .cycle;
+  readback = t .readback;
+}
+
+unfoldable pub fedBack : Oscillator → ℕ → Oscillator
+fedBack o output = record { control = o .control; tone = fedBackTone (o .tone) (o .control) output; noise = o .noise; bus = o .bus }
+
+-- ---- the latched code, and what it does to the noise register (latch_output)
+
+unfoldable pub latchedTone : Tone → ℕ → Tone
+latchedTone t latched = record {
+  accumulator = t .accumulator;
+  «msb_rising» = t .«msb_rising»;
+  «last_sample» = latched;
+  «pulse_output» = t .«pulse_output»;
+  cycle = t .cycle;
+  readback = latched;
+}
+
+-- in test, noise with pulse and another couples its low lines into the charges
+unfoldable pub couples : Control → Bool
+couples c = c .«test_enabled» && (eqb (bitAnd (selected c .raw) 0xc) 0xc && has (selected c) 3)
+
+-- out of test, noise with another is driven (noise_is_driven)
+unfoldable pub noiseIsDriven : Control → Bool
+noiseIsDriven c = has (selected c) 8 && (has (selected c) 7 && not (c .«test_enabled»))
+
+-- driven noise is pulled down, but with pulse alone only in the shift's aperture
+unfoldable pub pullsDown : Control → Noise → ℕ → Bool
+pullsDown c n cycle = noiseIsDriven c && (not (eqb (selected c .raw) 0xc) || pulseLoadAperture n cycle)
+
+unfoldable pub coupledNoise : NoiseGenerator → Control → ℕ → NoiseGenerator
+coupledNoise g c latched = cond (couples c) (coupled g latched) g
+
+unfoldable pub pulledNoise : NoiseGenerator → Control → ℕ → ℕ → NoiseGenerator
+pulledNoise g c latched cycle = cond (pullsDown c (g .numbers) cycle) (pulledDown g latched cycle) g
+
+unfoldable pub latchedNoise : NoiseGenerator → Control → ℕ → ℕ → NoiseGenerator
+latchedNoise g c latched cycle = pulledNoise (coupledNoise g c latched) c latched cycle
+
+unfoldable pub latchedCode : Oscillator → ℕ → Oscillator
+latchedCode o output = record {
+  control = o .control;
+  tone = latchedTone (o .tone) (output % 4096);
+  noise = latchedNoise (o .noise) (o .control) (output % 4096) (o .tone .cycle);
+  bus = o .bus;
+}
+
+-- ---- 'Selecting waveform 0 from another captures the last code on floating lines.' Test entry and exit (write_control, in its order)
+
+-- the four fields
+unfoldable pub writtenControl : Control → ℕ → Control
+writtenControl c value = record {
+  frequency = c .frequency;
+  «pulse_width» = c .«pulse_width»;
+  waveform = value / 2 ^ 4;
+  «sync_enabled» = not (eqb (bitAnd value 0x02) 0);
+  «ring_enabled» = not (eqb (bitAnd value 0x04) 0);
+  «test_enabled» = not (eqb (bitAnd value 0x08) 0);
+}
+
+-- then the lines, old selection against new as whole numbers
+unfoldable pub writtenBus : FloatingBus → ℕ → ℕ → Tone → FloatingBus
+writtenBus b old new t = cond (eqb old new) b (cond (eqb new 0) (captured (t .«last_sample») (t .cycle)) Floating·fresh)
+
+-- as test is left, drivers that stay connected load the register with the last code; pulse does so where triangle or saw was
+-- connected, and holds all but the three lowest noise lines high (NOISE_PULSE_TRANSFER_RETAINED_LINES)
+unfoldable pub exitLoaded : NoiseGenerator → ℕ → ℕ → Tone → NoiseGenerator
+exitLoaded g old drivers t =
+    cond (eqb (bitAnd drivers 8) 0) g
+    (cond (eqb (bitAnd drivers 3) 0)
+    (cond (eqb (bitAnd drivers 4) 0) g (cond (eqb (bitAnd old 3) 0) g (pulledDown g (bitOr (t .«last_sample») 0xf8f) (t .cycle))))
+    (pulledDown g (t .«last_sample») (t .cycle)))
+
+unfoldable pub testedNoise : NoiseGenerator → Control → Control → Tone → NoiseGenerator
+testedNoise g old new t =
+    cond (old .«test_enabled»)
+    (cond (new .«test_enabled») g (leftTest (exitLoaded g (old .waveform) (bitAnd (old .waveform) (new .waveform)) t) (t .cycle)))
+    (cond (new .«test_enabled») (enteredTest g (t .cycle)) g)
+
+-- reset_phase
+unfoldable pub resetPhase : Tone → Tone
+resetPhase t = record {
+  accumulator = 0;
+  «msb_rising» = false;
+  «last_sample» = t .«last_sample»;
+  «pulse_output» = t .«pulse_output»;
+  cycle = t .cycle;
+  readback = t .readback;
+}
+
+unfoldable pub testedTone : Tone → Bool → Bool → Tone
+testedTone t old new = cond old t (cond new (resetPhase t) t)
+
+unfoldable pub written : Oscillator → ℕ → Oscillator
+written o value = record {
+  control = writtenControl (o .control) value;
+  tone = testedTone (o .tone) (o .control .«test_enabled») (writtenControl (o .control) value .«test_enabled»);
+  noise = testedNoise (o .noise) (o .control) (writtenControl (o .control) value) (o .tone);
+  bus = writtenBus (o .bus) (o .control .waveform) (writtenControl (o .control) value .waveform) (o .tone);
+}
+
+-- ---- the registers of frequency and pulse width (write_frequency_lo, …)
+
+abbrev pub tuned : Oscillator → ℕ → ℕ → Oscillator
+tuned o frequency width = record {
+  control = record {
+    frequency = frequency;
+    «pulse_width» = width;
+    waveform = o .control .waveform;
+    «sync_enabled» = o .control .«sync_enabled»;
+    «ring_enabled» = o .control .«ring_enabled»;
+    «test_enabled» = o .control .«test_enabled»;
+  };
+  tone = o .tone;
+  noise = o .noise;
+  bus = o .bus;
+}
+
+-- ---- synchronise
+
+unfoldable pub synchronised : Oscillator → Oscillator
+synchronised o = record { control = o .control; tone = resetPhase (o .tone); noise = o .noise; bus = o .bus }
+
+-- ---- one voice's part of a tick, with the modulator's phase given: 'evaluate, feedback, latch', after the phase's clock
+
+unfoldable pub voiced : Oscillator → ℕ → Oscillator
+voiced o modulator = latchedCode (fedBack (evaluated o modulator .oscillator) (evaluated o modulator .code)) (evaluated o modulator .code)
+
+unfoldable pub ticked : Oscillator → ℕ → Oscillator
+ticked o modulator = voiced (clocked o) modulator
+
+-- n ticks, the modulator's phase given for each
+unfoldable pub ticks : ℕ → Oscillator → (ℕ → ℕ) → Oscillator
+ticks zero o modulators = o
+ticks (suc n) o modulators = ticked (ticks n o modulators) (modulators n)
+
+-- ---- whether a sample and a latch reach an array at all
+
+unfoldable pub sampleDue : Control → Floating → ℕ → Bool
+sampleDue c f cycle = isOff (selected c) && leaks f cycle
+
+unfoldable pub latchDue : Control → Noise → ℕ → Bool
+latchDue c n cycle = couples c || pullsDown c n cycle
+
+-- ---- whether the lines are loaded, and the code where they aren't
+
+unfoldable pub loadsLines : Control → Bool
+loadsLines c = not (eqb (selected c .raw) 9) && needsLoading (selected c .raw)
+
+unfoldable pub plainCode : Control → Tone → ℕ → ℕ → ℕ → ℕ
+plainCode c t visible floats modulator = cond (isOff (selected c)) (floats % 4096) (ideal c t visible modulator % 4096)

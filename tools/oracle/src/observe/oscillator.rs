@@ -1,0 +1,97 @@
+/// Beside the original oscillator: its whole state, read and built.
+#[derive(Clone)]
+pub struct OscillatorState {
+    pub frequency: u16,
+    pub pulse_width: u16,
+    pub waveform: u8,
+    pub sync_enabled: bool,
+    pub ring_enabled: bool,
+    pub test_enabled: bool,
+    pub msb_rising: bool,
+    pub accumulator: u32,
+    pub last_sample: u16,
+    pub pulse_output: u16,
+    pub cycle: u64,
+    pub readback: u16,
+    pub noise_state: u32,
+    pub noise_visible: u16,
+    pub noise_captured: u32,
+    pub noise_transfer_at: u64,
+    pub noise_normal_transfer_at: u64,
+    pub noise_next_leak: u64,
+    pub noise_captured_charge: [u16; 23],
+    pub noise_charge: [u16; 23],
+    pub bus_value: u16,
+    pub bus_hold_until: u64,
+    pub bus_next_leak: u64,
+    pub bus_charge: [u16; 12],
+}
+
+impl Oscillator {
+    pub fn from_state(s: &OscillatorState) -> Self {
+        Self {
+            accumulator: s.accumulator,
+            frequency: s.frequency,
+            pulse_width: s.pulse_width,
+            waveform: s.waveform,
+            sync_enabled: s.sync_enabled,
+            ring_enabled: s.ring_enabled,
+            test_enabled: s.test_enabled,
+            msb_rising: s.msb_rising,
+            last_sample: s.last_sample,
+            pulse_output: s.pulse_output,
+            noise: NoiseGenerator {
+                state: s.noise_state,
+                visible: s.noise_visible,
+                captured: s.noise_captured,
+                captured_charge: s.noise_captured_charge,
+                transfer_at: s.noise_transfer_at,
+                normal_transfer_at: s.noise_normal_transfer_at,
+                charge: s.noise_charge,
+                next_leak: s.noise_next_leak,
+            },
+            cycle: s.cycle,
+            readback: s.readback,
+            bus: FloatingBus {
+                value: s.bus_value,
+                charge: s.bus_charge,
+                hold_until: s.bus_hold_until,
+                next_leak: s.bus_next_leak,
+            },
+        }
+    }
+
+    pub fn state(&self) -> OscillatorState {
+        OscillatorState {
+            frequency: self.frequency,
+            pulse_width: self.pulse_width,
+            waveform: self.waveform,
+            sync_enabled: self.sync_enabled,
+            ring_enabled: self.ring_enabled,
+            test_enabled: self.test_enabled,
+            msb_rising: self.msb_rising,
+            accumulator: self.accumulator,
+            last_sample: self.last_sample,
+            pulse_output: self.pulse_output,
+            cycle: self.cycle,
+            readback: self.readback,
+            noise_state: self.noise.state,
+            noise_visible: self.noise.visible,
+            noise_captured: self.noise.captured,
+            noise_transfer_at: self.noise.transfer_at,
+            noise_normal_transfer_at: self.noise.normal_transfer_at,
+            noise_next_leak: self.noise.next_leak,
+            noise_captured_charge: self.noise.captured_charge,
+            noise_charge: self.noise.charge,
+            bus_value: self.bus.value,
+            bus_hold_until: self.bus.hold_until,
+            bus_next_leak: self.bus.next_leak,
+            bus_charge: self.bus.charge,
+        }
+    }
+
+    /// The 12-bit phase, which the original keeps to itself.
+    pub fn phase_shown(&self) -> u16 {
+        self.phase()
+    }
+}
