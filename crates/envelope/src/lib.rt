@@ -229,7 +229,7 @@ impl Envelope {
     }
 
     // The test at the head of the Rust's `clock`.
-    fn quiescent(self) -> bool
+    pub fn quiescent(self) -> bool
         ensures { λ r. ⌜ r ≡ quiescent self ⌝ }
     {
         if self.queued_curve_divisor != 0 {
@@ -486,7 +486,7 @@ impl Envelope {
         self
     }
 
-    fn clock_rate_sequence(mut self) -> Self
+    pub fn clock_rate_sequence(mut self) -> Self
         ensures { λ r. ⌜ r ≡ rateClocked self ⌝ }
     {
         if self.rate_phase == self.rate_target_phase {

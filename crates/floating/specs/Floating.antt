@@ -11,6 +11,10 @@ use Rattle.laws.specs.Charges.{charged, highTo}
 use Rattle.floating.specs.declared.Floating.{Floating}
 use Rattle.floating.specs.declared.FloatingBus.{FloatingBus}
 
+-- the lines out of their numbers and charges
+abbrev pub lines : Floating → List ℕ → FloatingBus
+lines f charge = record { numbers = f; charge = charge }
+
 -- the lines freshly made, and once another waveform is selected (new, reset)
 unfoldable pub fresh : FloatingBus
 fresh = record { numbers = record { value = 0; «hold_until» = never; «next_leak» = never }; charge = charged 0 12 }

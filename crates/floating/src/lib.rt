@@ -4,7 +4,7 @@ ghost use mathlib.Core.Path.{_≡_};
 ghost use Prim.Native.Nat.{_-_, max};
 ghost use Rattle.laws.specs.Times.{times};
 ghost use Rattle.laws.specs.Charges.{charged};
-ghost use Rattle.floating.specs.Floating.{fresh, captured, lost as Floating·lost, leakStep, leaks as Floating·leaks, retained as Floating·retained, leakedTo, sampled};
+ghost use Rattle.floating.specs.Floating.{lines, fresh, captured, lost as Floating·lost, leakStep, leaks as Floating·leaks, retained as Floating·retained, leakedTo, sampled};
 
 pub struct Floating {
     pub value: u16,
@@ -205,4 +205,22 @@ fn leaked(f: Floating, charge: [u16; 12], next_leak: u64) -> FloatingBus
         next_leak,
     };
     FloatingBus { numbers, charge }
+}
+
+impl Floating {
+    // `sample` on charges that are lent and changed where they stand, for a caller's loop.
+    pub fn sample_lent(self, cycle: u64, charge: &mut [u16; 12]) -> Floating
+        ensures { λ r. ⌜ lines r (now (charge .exit)) ≡ sampled (lines self (now (charge .entry))) cycle ⌝ }
+    {
+        let old_charge = *charge;
+        let before = FloatingBus {
+            numbers: self,
+            charge: old_charge,
+        };
+        let after = before.sample(cycle);
+        let new_charge = after.charge;
+        let numbers = after.numbers;
+        *charge = new_charge;
+        numbers
+    }
 }

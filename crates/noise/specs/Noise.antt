@@ -13,6 +13,10 @@ use Rattle.noise.specs.declared.Noise.{Noise}
 use Rattle.noise.specs.declared.NoiseGenerator.{NoiseGenerator}
 use Rattle.noise.specs.declared.Stages.{Stages}
 
+-- a register out of its numbers and charges
+abbrev pub generator : Noise → List ℕ → List ℕ → NoiseGenerator
+generator n capturedCharge charge = record { numbers = n; «captured_charge» = capturedCharge; charge = charge }
+
 -- 'taps 2, 4, 8, 11, 13, 17, 20, 22' (NOISE_OUTPUT_TAPS)
 abbrev pub taps : List ℕ
 taps = 2 ∷ 4 ∷ 8 ∷ 11 ∷ 13 ∷ 17 ∷ 20 ∷ 22 ∷ []

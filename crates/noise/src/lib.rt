@@ -5,7 +5,7 @@ ghost use mathlib.Core.Path.{_≡_};
 ghost use Prim.Native.Nat.{_-_, _<_, max};
 ghost use Rattle.laws.specs.Times.{times};
 ghost use Rattle.laws.specs.Charges.{charged};
-ghost use Rattle.noise.specs.Noise.{tap as Noise·tap, shown, fresh, enteredTest, sampled as Noise·sampled, leftTest, captures as Noise·captures, captureNumbers, clocked, come, transfers as Noise·transfers, feedback as Noise·feedback, shiftedState, incoming as Noise·incoming, shiftedCharge, shiftedNumbers, transferred, recovered as Noise·recovered, relaxedStage, relaxStep, settledTo, relaxed, low, drained as Noise·drained, coupledTo, coupled, dischargedTo, clearedTo, affectsCapture, pulledNumbers, pulledDown, stepped, stepDue, pulseLoadAperture};
+ghost use Rattle.noise.specs.Noise.{generator, tap as Noise·tap, shown, fresh, enteredTest, sampled as Noise·sampled, leftTest, captures as Noise·captures, captureNumbers, clocked, come, transfers as Noise·transfers, feedback as Noise·feedback, shiftedState, incoming as Noise·incoming, shiftedCharge, shiftedNumbers, transferred, recovered as Noise·recovered, relaxedStage, relaxStep, settledTo, relaxed, low, drained as Noise·drained, coupledTo, coupled, dischargedTo, clearedTo, affectsCapture, pulledNumbers, pulledDown, stepped, stepDue, pulseLoadAperture};
 
 pub struct Noise {
     pub state: u32,
@@ -186,6 +186,18 @@ pub fn discharged(charge: [u16; 23], waveform: u16) -> [u16; 23]
         }
     }
     out
+}
+
+// `discharged`, where the charges stand.
+fn discharge(charge: &mut [u16; 23], waveform: u16)
+    ensures { λ _. ⌜ now (charge .exit) ≡ dischargedTo waveform (now (charge .entry)) 8 ⌝ }
+{
+    for line in 0..8usize {
+        if is_low(waveform, line) {
+            let stage = tap(line);
+            charge[stage] = 0;
+        }
+    }
 }
 
 // The stages, held or captured, after `pull_down`, before the mask.
@@ -618,5 +630,98 @@ impl NoiseGenerator {
         }
         let shifted = self.execute_transfer(cycle);
         shifted.clock(rising_bits, cycle)
+    }
+}
+
+// The register's methods on charges that are lent and changed where they stand, for a caller's loop.
+impl Noise {
+    fn relax_lent(
+        self,
+        cycle: u64,
+        captured_charge: &mut [u16; 23],
+        charge: &mut [u16; 23],
+    ) -> Noise
+        ensures { λ r. ⌜ generator r (now («captured_charge» .exit)) (now (charge .exit)) ≡ relaxed (generator self (now («captured_charge» .entry)) (now (charge .entry))) cycle ⌝ }
+    {
+        let old_captured = *captured_charge;
+        let old_charge = *charge;
+        let before = NoiseGenerator {
+            numbers: self,
+            captured_charge: old_captured,
+            charge: old_charge,
+        };
+        let after = before.relax(cycle);
+        let new_captured = after.captured_charge;
+        let new_charge = after.charge;
+        let numbers = after.numbers;
+        *captured_charge = new_captured;
+        *charge = new_charge;
+        numbers
+    }
+
+    fn execute_transfer_lent(
+        self,
+        cycle: u64,
+        captured_charge: &mut [u16; 23],
+        charge: &mut [u16; 23],
+    ) -> Noise
+        ensures { λ r. ⌜ generator r (now («captured_charge» .exit)) (now (charge .exit)) ≡ transferred (generator self (now («captured_charge» .entry)) (now (charge .entry))) cycle ⌝ }
+    {
+        if self.transfers(cycle) {
+            let next_charge = shifted_charge(*captured_charge, self.incoming());
+            *charge = next_charge;
+            return self.shift();
+        }
+        self
+    }
+
+    fn clock_lent(
+        self,
+        rising_bits: u32,
+        cycle: u64,
+        captured_charge: &mut [u16; 23],
+        charge: &mut [u16; 23],
+    ) -> Noise
+        ensures { λ r. ⌜ generator r (now («captured_charge» .exit)) (now (charge .exit)) ≡ clocked (generator self (now («captured_charge» .entry)) (now (charge .entry))) «rising_bits» cycle ⌝ }
+    {
+        if self.captures(rising_bits) {
+            *captured_charge = *charge;
+            return self.capture(cycle);
+        }
+        self
+    }
+
+    pub fn step_lent(
+        self,
+        test: bool,
+        rising_bits: u32,
+        cycle: u64,
+        captured_charge: &mut [u16; 23],
+        charge: &mut [u16; 23],
+    ) -> Noise
+        ensures { λ r. ⌜ generator r (now («captured_charge» .exit)) (now (charge .exit)) ≡ stepped (generator self (now («captured_charge» .entry)) (now (charge .entry))) test «rising_bits» cycle ⌝ }
+    {
+        if test {
+            return self.relax_lent(cycle, captured_charge, charge);
+        }
+        let shifted = self.execute_transfer_lent(cycle, captured_charge, charge);
+        shifted.clock_lent(rising_bits, cycle, captured_charge, charge)
+    }
+
+    pub fn pull_down_lent(
+        self,
+        waveform: u16,
+        cycle: u64,
+        captured_charge: &mut [u16; 23],
+        charge: &mut [u16; 23],
+    ) -> Noise
+        ensures { λ r. ⌜ generator r (now («captured_charge» .exit)) (now (charge .exit)) ≡ pulledDown (generator self (now («captured_charge» .entry)) (now (charge .entry))) waveform cycle ⌝ }
+    {
+        discharge(charge, waveform);
+        if self.affects_capture(cycle) {
+            discharge(captured_charge, waveform);
+            return self.pull(waveform, cycle);
+        }
+        self.pull(waveform, cycle)
     }
 }

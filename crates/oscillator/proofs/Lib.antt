@@ -1,4 +1,5 @@
 pub mod Feedback
 pub mod Floats
+pub mod Parts
 pub mod Pulse
 pub mod Still

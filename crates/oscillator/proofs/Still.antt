@@ -22,9 +22,9 @@ sample-still c b cycle e = go (isOff (selected c)) e
     go true e = simp e
     go false e = refl
 
-pub latch-still : (c : Control) (g : NoiseGenerator) (latched cycle : ℕ) → latchDue c (g .numbers) cycle ≡ false → latchedNoise g c latched cycle ≡ g
+pub latch-still : (g : NoiseGenerator) (c : Control) (latched cycle : ℕ) → latchDue c (g .numbers) cycle ≡ false → latchedNoise g c latched cycle ≡ g
 unfolding latchDue latchedNoise coupledNoise pulledNoise
-latch-still c g latched cycle e =
+latch-still g c latched cycle e =
     simp (or-left (couples c) (pullsDown c (g .numbers) cycle) e, or-right (couples c) (pullsDown c (g .numbers) cycle) e)
 
 pub code-plain : (c : Control) (t : Tone) (visible floats m : ℕ) → loadsLines c ≡ false → code c t visible floats m ≡ plainCode c t visible floats m

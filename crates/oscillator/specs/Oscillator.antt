@@ -1,6 +1,6 @@
 -- The oscillator of one voice: document 01, 'Oscillator'; Oscillator of oscillator.rs.
 -- Its fields stand in two records of numbers, Control (what the registers say) and Tone (what a clock changes), beside the noise register and the floating lines.
-use Prim.Native.Nat.{ℕ, zero, suc, _+_, _-_, _/_, _%_, _^_}
+use Prim.Native.Nat.{ℕ, zero, suc, _+_, _-_, _*_, _/_, _%_, _^_}
 use mathlib.Core.Bool.{Bool, false, cond, not, _&&_, _||_}
 use lib.Bits.{bitAnd, bitOr, bitXor}
 use lib.Dec.{eqb, leb}
@@ -243,6 +243,26 @@ tuned o frequency width = record {
   noise = o .noise;
   bus = o .bus;
 }
+
+abbrev pub writtenFrequencyLo : Oscillator → ℕ → Oscillator
+writtenFrequencyLo o value = tuned o (bitOr (bitAnd (o .control .frequency) 0xff00) value) (o .control .«pulse_width»)
+
+abbrev pub writtenFrequencyHi : Oscillator → ℕ → Oscillator
+writtenFrequencyHi o value = tuned o (bitOr (bitAnd (o .control .frequency) 0x00ff) (value * 2 ^ 8)) (o .control .«pulse_width»)
+
+abbrev pub writtenPulseWidthLo : Oscillator → ℕ → Oscillator
+writtenPulseWidthLo o value = tuned o (o .control .frequency) (bitOr (bitAnd (o .control .«pulse_width») 0x0f00) value)
+
+abbrev pub writtenPulseWidthHi : Oscillator → ℕ → Oscillator
+writtenPulseWidthHi o value = tuned o (o .control .frequency) (bitOr (bitAnd (o .control .«pulse_width») 0x00ff) (value % 16 * 2 ^ 8))
+
+-- ---- what is read: 'OSC3 is the top eight bits of voice 2's code' (read_output, output_is_frozen)
+
+abbrev pub readOutput : Oscillator → ℕ
+readOutput o = o .tone .readback / 2 ^ 4 % 256
+
+abbrev pub outputIsFrozen : Oscillator → Bool
+outputIsFrozen o = o .control .«test_enabled» && eqb (o .control .waveform) 4
 
 -- ---- synchronise
 

@@ -6,12 +6,10 @@ use floating::FloatingBus;
 use noise::Noise;
 use noise::NoiseGenerator;
 ghost use mathlib.Core.Path.{_≡_};
-ghost use mathlib.Core.Bool.{_&&_};
-ghost use lib.Bits.{bitAnd, bitOr};
-ghost use lib.Dec.{eqb};
-ghost use Prim.Native.Nat.{_*_, _/_, _%_, _^_};
+ghost use mathlib.Core.Bool.{cond};
+ghost use Rattle.noise.specs.Noise.{generator, coupledTo};
 ghost use Rattle.oscillator.specs.Selection.{select, isOff, has as Selection·has, isCombined, joined, combined};
-ghost use Rattle.oscillator.specs.Oscillator.{fresh, rising as Oscillator·rising, clockedTone, clocked as Oscillator·clocked, phase as Oscillator·phase, rings as Oscillator·rings, trianglePhase, pulse as Oscillator·pulse, comparedTone, ideal as Oscillator·ideal, waveformAt, code as Oscillator·code, plainCode, loadsLines, sampledBus, evaluated, feedsBack, fedBackTone, fedBack, latchedTone, couples as Oscillator·couples, noiseIsDriven, pullsDown, coupledNoise, pulledNoise, latchedNoise, latchedCode, writtenControl, writtenBus, exitLoaded, testedNoise, resetPhase, testedTone, written, tuned, synchronised, sampleDue, latchDue};
+ghost use Rattle.oscillator.specs.Oscillator.{fresh, rising as Oscillator·rising, clockedTone, clocked as Oscillator·clocked, phase as Oscillator·phase, rings as Oscillator·rings, trianglePhase, pulse as Oscillator·pulse, comparedTone, ideal as Oscillator·ideal, waveformAt, code as Oscillator·code, plainCode, loadsLines, sampledBus, evaluated, feedsBack, fedBackTone, fedBack, latchedTone, couples as Oscillator·couples, noiseIsDriven, pullsDown, coupledNoise, pulledNoise, latchedNoise, latchedCode, writtenControl, writtenBus, exitLoaded, testedNoise, resetPhase, testedTone, written, tuned, writtenFrequencyLo, writtenFrequencyHi, writtenPulseWidthLo, writtenPulseWidthHi, readOutput, outputIsFrozen, synchronised, sampleDue, latchDue};
 
 pub struct WaveformSelect {
     pub raw: u8,
@@ -500,6 +498,49 @@ fn latched_noise(
     pulled_noise(coupled, control, latched, cycle)
 }
 
+// The same on charges that are lent and changed where they stand, for a caller's loop.
+impl Control {
+    fn couple_lent(self, latched: u16, charge: &mut [u16; 23])
+        ensures { λ _. ⌜ now (charge .exit) ≡ cond (Oscillator·couples self) (coupledTo latched (now (charge .entry)) 8) (now (charge .entry)) ⌝ }
+    {
+        if self.couples() {
+            let coupled = noise::coupled_charge(*charge, latched);
+            *charge = coupled;
+            return;
+        }
+    }
+
+    fn pull_lent(
+        self,
+        noise: Noise,
+        latched: u16,
+        cycle: u64,
+        captured_charge: &mut [u16; 23],
+        charge: &mut [u16; 23],
+    ) -> Noise
+        ensures { λ r. ⌜ generator r (now («captured_charge» .exit)) (now (charge .exit)) ≡ pulledNoise (generator noise (now («captured_charge» .entry)) (now (charge .entry))) self latched cycle ⌝ }
+    {
+        if self.pulls_down(noise, cycle) {
+            return noise.pull_down_lent(latched, cycle, captured_charge, charge);
+        }
+        noise
+    }
+
+    pub fn latch_lent(
+        self,
+        noise: Noise,
+        latched: u16,
+        cycle: u64,
+        captured_charge: &mut [u16; 23],
+        charge: &mut [u16; 23],
+    ) -> Noise
+        ensures { λ r. ⌜ generator r (now («captured_charge» .exit)) (now (charge .exit)) ≡ latchedNoise (generator noise (now («captured_charge» .entry)) (now (charge .entry))) self latched cycle ⌝ }
+    {
+        self.couple_lent(latched, charge);
+        self.pull_lent(noise, latched, cycle, captured_charge, charge)
+    }
+}
+
 impl Oscillator {
     // `new`, but for the phase.
     fn at_phase(accumulator: u32) -> Oscillator
@@ -562,14 +603,14 @@ impl Oscillator {
     }
 
     pub fn write_frequency_lo(self, value: u8) -> Oscillator
-        ensures { λ r. ⌜ r ≡ tuned self (bitOr (bitAnd (self .control .frequency) 0xff00) value) (self .control .«pulse_width») ⌝ }
+        ensures { λ r. ⌜ r ≡ writtenFrequencyLo self value ⌝ }
     {
         let c = self.control;
         self.tune((c.frequency & 0xff00) | (value as u16), c.pulse_width)
     }
 
     pub fn write_frequency_hi(self, value: u8) -> Oscillator
-        ensures { λ r. ⌜ r ≡ tuned self (bitOr (bitAnd (self .control .frequency) 0xff) (value * 2 ^ 8)) (self .control .«pulse_width») ⌝ }
+        ensures { λ r. ⌜ r ≡ writtenFrequencyHi self value ⌝ }
     {
         let c = self.control;
         self.tune(
@@ -579,14 +620,14 @@ impl Oscillator {
     }
 
     pub fn write_pulse_width_lo(self, value: u8) -> Oscillator
-        ensures { λ r. ⌜ r ≡ tuned self (self .control .frequency) (bitOr (bitAnd (self .control .«pulse_width») 0xf00) value) ⌝ }
+        ensures { λ r. ⌜ r ≡ writtenPulseWidthLo self value ⌝ }
     {
         let c = self.control;
         self.tune(c.frequency, (c.pulse_width & 0x0f00) | (value as u16))
     }
 
     pub fn write_pulse_width_hi(self, value: u8) -> Oscillator
-        ensures { λ r. ⌜ r ≡ tuned self (self .control .frequency) (bitOr (bitAnd (self .control .«pulse_width») 0xff) (value % 16 * 2 ^ 8)) ⌝ }
+        ensures { λ r. ⌜ r ≡ writtenPulseWidthHi self value ⌝ }
     {
         let c = self.control;
         self.tune(
@@ -704,14 +745,14 @@ impl Oscillator {
     }
 
     pub fn read_output(self) -> u8
-        ensures { λ r. ⌜ r ≡ self .tone .readback / 2 ^ 4 % 256 ⌝ }
+        ensures { λ r. ⌜ r ≡ readOutput self ⌝ }
     {
         let tone = self.tone;
         ((tone.readback >> 4) % 256) as u8
     }
 
     pub fn output_is_frozen(self) -> bool
-        ensures { λ r. ⌜ r ≡ (self .control .«test_enabled» && eqb (self .control .waveform) 4) ⌝ }
+        ensures { λ r. ⌜ r ≡ outputIsFrozen self ⌝ }
     {
         let control = self.control;
         if control.test_enabled {

@@ -1,0 +1,66 @@
+-- One tick of a voice out of its parts, for a loop that holds them apart.
+-- Assumes nothing.
+use mathlib.Core.Path.{_≡_, refl, ap, _∙_}
+use mathlib.Core.Bool.{Bool, true, false, cond, _&&_}
+use mathlib.Core.List.{List}
+use Prim.Native.Nat.{ℕ, _%_}
+use native.Mathlib.Omega.{arith}
+use Rattle.noise.specs.Noise.{generator, coupledTo, coupled, stepped}
+use Rattle.noise.specs.declared.Noise.{Noise}
+use Rattle.noise.specs.declared.NoiseGenerator.{NoiseGenerator}
+use Rattle.floating.specs.Floating.{leaks, sampled}
+use Rattle.floating.specs.declared.FloatingBus.{FloatingBus}
+use Rattle.oscillator.specs.Selection.{isOff}
+use Rattle.oscillator.specs.Oscillator.{selected, rising, clockedTone, clocked, comparedTone, waveformAt, code, sampledBus, evaluated, fedBackTone, fedBack, latchedTone, couples, coupledNoise, latchedNoise, latchedCode, voiced, ticked, sampleDue}
+use Rattle.oscillator.specs.declared.Control.{Control}
+use Rattle.oscillator.specs.declared.Tone.{Tone}
+use Rattle.oscillator.specs.declared.Oscillator.{Oscillator}
+
+module _ (k : Control) (b : FloatingBus) (cycle : ℕ) where
+  pub sample-due : sampleDue k (b .numbers) cycle ≡ true → sampledBus b k cycle ≡ sampled b cycle
+  unfolding sampleDue sampledBus
+  sample-due e = go (isOff (selected k)) e
+    where
+      go : (t : Bool) → (t && leaks (b .numbers) cycle) ≡ true → cond t (sampled b cycle) b ≡ sampled b cycle
+      go true e = refl
+      go false e = ap (λ (x : Bool). cond x (sampled b cycle) b) e
+
+-- only the charges that are held are coupled into
+pub couple-charge
+    : (n : Noise) (k : Control) (latched : ℕ) (capturedCharge charge charge′ : List ℕ)
+    → charge′ ≡ cond (couples k) (coupledTo latched charge 8) charge
+    → generator n capturedCharge charge′ ≡ coupledNoise (generator n capturedCharge charge) k latched
+unfolding coupledNoise coupled
+couple-charge n k latched capturedCharge charge charge′ e = ap (generator n capturedCharge) e ∙ go (couples k)
+  where
+    go : (b : Bool) → generator n capturedCharge (cond b (coupledTo latched charge 8) charge) ≡ cond b (coupled (generator n capturedCharge charge) latched) (generator n capturedCharge charge)
+    go true = refl
+    go false = refl
+
+code-small : (k : Control) (t : Tone) (visible floats modulator : ℕ) → code k t visible floats modulator % 4096 ≡ code k t visible floats modulator
+unfolding code waveformAt
+code-small k t visible floats modulator = go (isOff (selected k))
+  where
+    small : (x : ℕ) → x % 4096 % 4096 ≡ x % 4096
+    small x = omega arith
+
+    go : (off : Bool) → cond off (floats % 4096) (waveformAt k t visible modulator) % 4096 ≡ cond off (floats % 4096) (waveformAt k t visible modulator)
+    go true = small floats
+    go false = small _
+
+abbrev pub voice : Control → Tone → NoiseGenerator → FloatingBus → Oscillator
+voice k t g b = record { control = k; tone = t; noise = g; bus = b }
+
+-- a tick: the phase and the noise clocked, the lines sampled, the code, and what it leaves
+pub tick-parts
+    : (k : Control) (t : Tone) (g : NoiseGenerator) (b : FloatingBus) (modulator : ℕ) (t1 : Tone) (g1 : NoiseGenerator) (b1 : FloatingBus) (output : ℕ)
+    → t1 ≡ clockedTone t k
+    → g1 ≡ stepped g (k .«test_enabled») (rising (t .accumulator) (t1 .accumulator)) (t1 .cycle)
+    → b1 ≡ sampledBus b k (t1 .cycle)
+    → output ≡ code k t1 (g1 .numbers .visible) (b1 .numbers .value) modulator
+    → voice k (latchedTone (fedBackTone (comparedTone t1 k) k output) output) (latchedNoise g1 k output (t1 .cycle)) b1 ≡ ticked (voice k t g b) modulator
+unfolding ticked voiced latchedCode fedBack evaluated clocked comparedTone fedBackTone
+tick-parts k t g b modulator t1 g1 b1 output p q r s =
+    let t′ = clockedTone t k in
+    let g′ = stepped g (k .«test_enabled») (rising (t .accumulator) (t′ .accumulator)) (t′ .cycle) in
+    simp (s, r, q, p) (simp (code-small k t′ (g′ .numbers .visible) (sampledBus b k (t′ .cycle) .numbers .value) modulator))

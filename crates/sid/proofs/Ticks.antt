@@ -1,0 +1,79 @@
+-- One tick of the chip out of its parts, which a loop may hold apart. Assumes nothing.
+use mathlib.Core.Path.{_≡_, refl, ap, ap₂, _∙_}
+use mathlib.Core.Bool.{Bool, true, false, cond}
+use Prim.Native.Nat.{ℕ}
+use Rattle.bus.specs.Bus.{clocked as Bus·clocked}
+use Rattle.bus.specs.declared.InternalDataBus.{InternalDataBus}
+use Rattle.envelope.specs.Envelope.{clocked as Envelope·clocked}
+use Rattle.envelope.specs.declared.Envelope.{Envelope}
+use Rattle.noise.specs.Noise.{stepped}
+use Rattle.noise.specs.declared.NoiseGenerator.{NoiseGenerator}
+use Rattle.floating.specs.declared.FloatingBus.{FloatingBus}
+use Rattle.oscillator.specs.Oscillator.{rising, clockedTone, comparedTone, code, sampledBus, fedBackTone, latchedTone, latchedNoise, resetPhase, synchronised as Oscillator·synchronised, ticked as Oscillator·ticked}
+use Rattle.oscillator.specs.declared.Control.{Control}
+use Rattle.oscillator.specs.declared.Tone.{Tone}
+use Rattle.oscillator.specs.declared.Oscillator.{Oscillator}
+use Rattle.oscillator.proofs.Parts.{voice, tick-parts}
+use Rattle.sid.specs.Sid.{clockedVoice, clocked, voiced, phaseOf, withVoices, withBus, voiced0, voiced1, voiced2, synchronisedIf, synced, synchronised, ticked}
+use Rattle.sid.specs.declared.Voice.{Voice}
+use Rattle.sid.specs.declared.Mos6581.{Mos6581}
+
+abbrev pub pack : Control → Tone → NoiseGenerator → FloatingBus → Envelope → Voice
+pack k t g b e = record { oscillator = voice k t g b; envelope = e }
+
+abbrev pub chip : Mos6581 → InternalDataBus → Voice → Voice → Voice → Mos6581
+chip c b v w x = withVoices (withBus c b) v w x
+
+-- any voice, up to its latch
+pub voice-parts
+    : (k : Control) (t : Tone) (g : NoiseGenerator) (b : FloatingBus) (e : Envelope) (modulator : ℕ)
+    (t1 : Tone) (g1 : NoiseGenerator) (b1 : FloatingBus) (output : ℕ) (t2 : Tone) (g2 : NoiseGenerator) (e1 : Envelope)
+    → t1 ≡ clockedTone t k
+    → g1 ≡ stepped g (k .«test_enabled») (rising (t .accumulator) (t1 .accumulator)) (t1 .cycle)
+    → b1 ≡ sampledBus b k (t1 .cycle)
+    → output ≡ code k t1 (g1 .numbers .visible) (b1 .numbers .value) modulator
+    → t2 ≡ latchedTone (fedBackTone (comparedTone t1 k) k output) output
+    → g2 ≡ latchedNoise g1 k output (t1 .cycle)
+    → e1 ≡ Envelope·clocked e
+    → pack k t2 g2 b1 e1 ≡ voiced (clockedVoice (pack k t g b e)) modulator
+unfolding voiced clockedVoice Oscillator·ticked
+voice-parts k t g b e modulator t1 g1 b1 output t2 g2 e1 p q r s u w x =
+    ap₂ (λ (o : Oscillator) (y : Envelope). record { oscillator = o; envelope = y })
+    (ap₂ (λ (y : Tone) (z : NoiseGenerator). voice k y z b1) u w ∙ tick-parts k t g b modulator t1 g1 b1 output p q r s)
+    x
+
+-- any voice, synchronised or not
+pub sync-parts
+    : (k : Control) (t : Tone) (g : NoiseGenerator) (b : FloatingBus) (e : Envelope) (taken : Bool) (t1 : Tone)
+    → t1 ≡ cond taken (resetPhase t) t
+    → pack k t1 g b e ≡ synchronisedIf taken (pack k t g b e)
+unfolding synchronisedIf Oscillator·synchronised
+sync-parts k t g b e taken t1 p = ap (λ (y : Tone). pack k y g b e) p ∙ go taken
+  where
+    go : (taken : Bool) → pack k (cond taken (resetPhase t) t) g b e ≡ cond taken (pack k (resetPhase t) g b e) (pack k t g b e)
+    go true = refl
+    go false = refl
+
+module _ (c : Mos6581) (b : InternalDataBus) (v w x : Voice) where
+  rung
+      : b ≡ Bus·clocked (c .«data_bus»)
+      → v ≡ voiced (clockedVoice (c .«voice_0»)) (phaseOf (clockedVoice (c .«voice_2»)))
+      → w ≡ voiced (clockedVoice (c .«voice_1»)) (phaseOf v)
+      → x ≡ voiced (clockedVoice (c .«voice_2»)) (phaseOf w)
+      → chip c b v w x ≡ voiced2 (voiced1 (voiced0 (clocked c)))
+  unfolding voiced0 voiced1 voiced2 clocked
+  rung o p q r = simp (r, q, p, o)
+
+  pub chip-parts
+      : b ≡ Bus·clocked (c .«data_bus»)
+      → v ≡ voiced (clockedVoice (c .«voice_0»)) (phaseOf (clockedVoice (c .«voice_2»)))
+      → w ≡ voiced (clockedVoice (c .«voice_1»)) (phaseOf v)
+      → x ≡ voiced (clockedVoice (c .«voice_2»)) (phaseOf w)
+      → (v1 w1 x1 : Voice)
+      → v1 ≡ synced v x w
+      → w1 ≡ synced w v x
+      → x1 ≡ synced x w v
+      → chip c b v1 w1 x1 ≡ ticked c
+  unfolding ticked synchronised
+  chip-parts o p q r v1 w1 x1 e f g =
+      ap (λ (y : Voice). chip c b y w1 x1) e ∙ ap₂ (chip c b (synced v x w)) f g ∙ ap synchronised (rung o p q r)

@@ -1,0 +1,242 @@
+-- The chip: document 01, 'Data bus', 'Oscillator' and 'Numbers a caller can get back'; sid.rs without filter and converter.
+use Prim.Native.Nat.{ℕ, zero, suc, _/_, _%_}
+use mathlib.Core.Bool.{Bool, cond, not, _&&_}
+use mathlib.Core.List.{List, [], _∷_}
+use lib.Dec.{eqb}
+use Rattle.laws.specs.Times.{times}
+use Rattle.refusals.specs.Refusals.{numberOf}
+use Rattle.bus.specs.Bus.{fresh as Bus·fresh, driven, clocked as Bus·clocked}
+use Rattle.bus.specs.declared.InternalDataBus.{InternalDataBus}
+use Rattle.envelope.specs.Envelope.{fresh as Envelope·fresh, reset as Envelope·reset, clocked as Envelope·clocked, attackDecaySet, sustainReleaseSet, gateSet}
+use Rattle.oscillator.specs.Oscillator.{fresh as Oscillator·fresh, clocked as Oscillator·clocked, voiced as Oscillator·voiced, written as Oscillator·written, writtenFrequencyLo, writtenFrequencyHi, writtenPulseWidthLo, writtenPulseWidthHi, readOutput, synchronised as Oscillator·synchronised}
+use Rattle.sid.specs.declared.Voice.{Voice}
+use Rattle.sid.specs.declared.Mos6581.{Mos6581}
+use Rattle.sid.specs.declared.Ticked.{Ticked}
+use Rattle.sid.specs.declared.Read.{Read}
+use Rattle.sid.specs.declared.Answer.{Answer}
+use Rattle.sid.specs.declared.Answer.the-variants.{Code, Level, Held, Refused}
+
+-- ---- 'Pots are 0xff when fresh, set by the host and kept by reset; a chip reset clears the bus byte.' (new, reset)
+
+abbrev pub freshVoice : Voice
+freshVoice = record { oscillator = Oscillator·fresh 0x555555; envelope = Envelope·fresh }
+
+unfoldable pub fresh : Mos6581
+fresh = record { «voice_0» = freshVoice; «voice_1» = freshVoice; «voice_2» = freshVoice; «data_bus» = Bus·fresh; «pot_x» = 0xff; «pot_y» = 0xff }
+
+-- a voice keeps its phase, its level and its rate phase
+unfoldable pub resetVoice : Voice → Voice
+resetVoice v = record { oscillator = Oscillator·fresh (v .oscillator .tone .accumulator); envelope = Envelope·reset (v .envelope) }
+
+unfoldable pub reset : Mos6581 → Mos6581
+reset c = record {
+  «voice_0» = resetVoice (c .«voice_0»);
+  «voice_1» = resetVoice (c .«voice_1»);
+  «voice_2» = resetVoice (c .«voice_2»);
+  «data_bus» = Bus·fresh;
+  «pot_x» = c .«pot_x»;
+  «pot_y» = c .«pot_y»;
+}
+
+-- ---- 'address masked with 0x1f': seven registers a voice, then those that no voice has
+
+abbrev pub register : ℕ → ℕ
+register address = address % 32
+
+-- a voice's frequency, pulse width, control, attack and decay, sustain and release (write, write_voice_control)
+unfoldable pub writtenVoice : Voice → ℕ → ℕ → Voice
+writtenVoice v register value = record {
+  oscillator =
+      cond (eqb register 0) (writtenFrequencyLo (v .oscillator) value)
+      (cond (eqb register 1) (writtenFrequencyHi (v .oscillator) value)
+      (cond (eqb register 2) (writtenPulseWidthLo (v .oscillator) value)
+      (cond (eqb register 3) (writtenPulseWidthHi (v .oscillator) value)
+      (cond (eqb register 4) (Oscillator·written (v .oscillator) value) (v .oscillator)))));
+  envelope =
+      cond (eqb register 4) (gateSet (v .envelope) (not (eqb (value % 2) 0)))
+      (cond (eqb register 5) (attackDecaySet (v .envelope) value)
+      (cond (eqb register 6) (sustainReleaseSet (v .envelope) value) (v .envelope)));
+}
+
+-- voice n, after a write that may be another's
+unfoldable pub writtenTo : ℕ → Voice → ℕ → ℕ → Voice
+writtenTo n v register value = cond (eqb (register / 7) n) (writtenVoice v (register % 7) value) v
+
+-- 'Every write, also to an unused address, drives the byte'; 'Writes to 0x15 to 0x18 therefore only drive the bus' (write)
+unfoldable pub written : Mos6581 → ℕ → ℕ → Mos6581
+written c address value = record {
+  «voice_0» = writtenTo 0 (c .«voice_0») (register address) value;
+  «voice_1» = writtenTo 1 (c .«voice_1») (register address) value;
+  «voice_2» = writtenTo 2 (c .«voice_2») (register address) value;
+  «data_bus» = driven value;
+  «pot_x» = c .«pot_x»;
+  «pot_y» = c .«pot_y»;
+}
+
+-- ---- 'Reads of 0x19 to 0x1c (pot X, pot Y, OSC3, ENV3) drive what they return; every other read returns the floating byte and renews nothing.' (read)
+
+-- 'OSC3 is the top eight bits of voice 2's code, ENV3 its readback'
+abbrev pub osc3 : Mos6581 → ℕ
+osc3 c = readOutput (c .«voice_2» .oscillator)
+
+abbrev pub env3 : Mos6581 → ℕ
+env3 c = c .«voice_2» .envelope .readback
+
+abbrev pub withBus : Mos6581 → InternalDataBus → Mos6581
+withBus c b = record { «voice_0» = c .«voice_0»; «voice_1» = c .«voice_1»; «voice_2» = c .«voice_2»; «data_bus» = b; «pot_x» = c .«pot_x»; «pot_y» = c .«pot_y» }
+
+unfoldable pub readDriven : Mos6581 → ℕ → Read
+readDriven c value = record { chip = withBus c (driven value); byte = value }
+
+unfoldable pub readAt : Mos6581 → ℕ → Read
+readAt c address =
+    cond (eqb (register address) 0x19) (readDriven c (c .«pot_x»))
+    (cond (eqb (register address) 0x1a) (readDriven c (c .«pot_y»))
+    (cond (eqb (register address) 0x1b) (readDriven c (osc3 c))
+    (cond (eqb (register address) 0x1c) (readDriven c (env3 c)) (record { chip = c; byte = c .«data_bus» .value }))))
+
+-- 'set by the host'
+abbrev pub withPotX : Mos6581 → ℕ → Mos6581
+withPotX c value = record { «voice_0» = c .«voice_0»; «voice_1» = c .«voice_1»; «voice_2» = c .«voice_2»; «data_bus» = c .«data_bus»; «pot_x» = value; «pot_y» = c .«pot_y» }
+
+abbrev pub withPotY : Mos6581 → ℕ → Mos6581
+withPotY c value = record { «voice_0» = c .«voice_0»; «voice_1» = c .«voice_1»; «voice_2» = c .«voice_2»; «data_bus» = c .«data_bus»; «pot_x» = c .«pot_x»; «pot_y» = value }
+
+-- ---- 'Tick order: bus; three phases; three envelopes; …' (tick)
+
+unfoldable pub clockedVoice : Voice → Voice
+clockedVoice v = record { oscillator = Oscillator·clocked (v .oscillator); envelope = Envelope·clocked (v .envelope) }
+
+unfoldable pub clocked : Mos6581 → Mos6581
+clocked c = record {
+  «voice_0» = clockedVoice (c .«voice_0»);
+  «voice_1» = clockedVoice (c .«voice_1»);
+  «voice_2» = clockedVoice (c .«voice_2»);
+  «data_bus» = Bus·clocked (c .«data_bus»);
+  «pot_x» = c .«pot_x»;
+  «pot_y» = c .«pot_y»;
+}
+
+-- '… then per voice evaluate, feedback, latch', with the phase of the voice before it in the ring
+unfoldable pub voiced : Voice → ℕ → Voice
+voiced v modulator = record { oscillator = Oscillator·voiced (v .oscillator) modulator; envelope = v .envelope }
+
+abbrev pub phaseOf : Voice → ℕ
+phaseOf v = v .oscillator .tone .accumulator
+
+abbrev pub withVoices : Mos6581 → Voice → Voice → Voice → Mos6581
+withVoices c v w x = record { «voice_0» = v; «voice_1» = w; «voice_2» = x; «data_bus» = c .«data_bus»; «pot_x» = c .«pot_x»; «pot_y» = c .«pot_y» }
+
+-- 'voice 0 seeing voice 2's phase before that voice's feedback'
+unfoldable pub voiced0 : Mos6581 → Mos6581
+voiced0 c = withVoices c (voiced (c .«voice_0») (phaseOf (c .«voice_2»))) (c .«voice_1») (c .«voice_2»)
+
+-- 'and voices 1 and 2 the phase before them after it'
+unfoldable pub voiced1 : Mos6581 → Mos6581
+voiced1 c = withVoices c (c .«voice_0») (voiced (c .«voice_1») (phaseOf (c .«voice_0»))) (c .«voice_2»)
+
+unfoldable pub voiced2 : Mos6581 → Mos6581
+voiced2 c = withVoices c (c .«voice_0») (c .«voice_1») (voiced (c .«voice_2») (phaseOf (c .«voice_1»)))
+
+-- 'then synchronisation, judged from marks read beforehand': a source whose mark is set takes along a voice with sync enabled, unless the source, with sync
+-- enabled too, sees its own source's mark
+unfoldable pub syncs : Bool → Bool → Bool → Bool → Bool
+syncs rising sync sourceSync sourceRising = rising && (sync && not (sourceSync && sourceRising))
+
+abbrev pub risingOf : Voice → Bool
+risingOf v = v .oscillator .tone .«msb_rising»
+
+abbrev pub syncOf : Voice → Bool
+syncOf v = v .oscillator .control .«sync_enabled»
+
+unfoldable pub synchronisedIf : Bool → Voice → Voice
+synchronisedIf taken v = cond taken (record { oscillator = Oscillator·synchronised (v .oscillator); envelope = v .envelope }) v
+
+-- a voice, the one before it in the ring, and the one before that
+abbrev pub synced : Voice → Voice → Voice → Voice
+synced v source before = synchronisedIf (syncs (risingOf source) (syncOf v) (syncOf source) (risingOf before)) v
+
+unfoldable pub synchronised : Mos6581 → Mos6581
+synchronised c =
+    withVoices c (synced (c .«voice_0») (c .«voice_2») (c .«voice_1»)) (synced (c .«voice_1») (c .«voice_0») (c .«voice_2»)) (synced (c .«voice_2») (c .«voice_1») (c .«voice_0»))
+
+unfoldable pub ticked : Mos6581 → Mos6581
+ticked c = synchronised (voiced2 (voiced1 (voiced0 (clocked c))))
+
+-- n clocks
+abbrev pub ticks : ℕ → Mos6581 → Mos6581
+ticks n c = times n ticked c
+
+-- ---- 'The calls that name a voice give its code (the last latched; fresh or reset 0), its level, or whether it is held at zero.'
+
+abbrev pub codeOf : Voice → ℕ
+codeOf v = v .oscillator .tone .«last_sample»
+
+abbrev pub levelOf : Voice → ℕ
+levelOf v = v .envelope .volume
+
+abbrev pub heldOf : Voice → Bool
+heldOf v = v .envelope .«floor_hold»
+
+-- 'a tick that … gives three 12-bit codes and three levels'
+unfoldable pub outputs : Mos6581 → Ticked
+outputs c = record {
+  chip = c;
+  «code_0» = codeOf (c .«voice_0»);
+  «code_1» = codeOf (c .«voice_1»);
+  «code_2» = codeOf (c .«voice_2»);
+  «level_0» = levelOf (c .«voice_0»);
+  «level_1» = levelOf (c .«voice_1»);
+  «level_2» = levelOf (c .«voice_2»);
+}
+
+-- number and place of a refusal, or what the call gives
+pub data Told : Type 0 where
+  code : ℕ → Told
+  level : ℕ → Told
+  held : Bool → Told
+  refused : ℕ → ℕ → Told
+
+abbrev pub told : Answer → Told
+told (Code x) = code x
+told (Level x) = level x
+told (Held x) = held x
+told (Refused why place) = refused (numberOf why) place
+
+-- 3, 'voice number above 2', at 0
+unfoldable pub named : Mos6581 → ℕ → (Voice → Told) → Told
+named c n give =
+    cond (eqb n 0) (give (c .«voice_0»)) (cond (eqb n 1) (give (c .«voice_1»)) (cond (eqb n 2) (give (c .«voice_2»)) (refused 3 0)))
+
+-- ---- any run of calls
+
+pub data Call : Type 0 where
+  write : ℕ → ℕ → Call
+  read : ℕ → Call
+  tick : Call
+  clear : Call
+  potX : ℕ → Call
+  potY : ℕ → Call
+
+unfoldable pub called : Call → Mos6581 → Mos6581
+called (write address value) c = written c address value
+called (read address) c = readAt c address .chip
+called tick c = ticked c
+called clear c = reset c
+called (potX value) c = withPotX c value
+called (potY value) c = withPotY c value
+
+-- the chip after calls, the first first
+unfoldable pub after : List Call → Mos6581 → Mos6581
+after [] c = c
+after (call ∷ calls) c = after calls (called call c)
+
+-- the ticks among them
+unfoldable pub clocksOf : List Call → ℕ
+clocksOf [] = zero
+clocksOf (tick ∷ calls) = suc (clocksOf calls)
+clocksOf (write address value ∷ calls) = clocksOf calls
+clocksOf (read address ∷ calls) = clocksOf calls
+clocksOf (clear ∷ calls) = clocksOf calls
+clocksOf (potX value ∷ calls) = clocksOf calls
+clocksOf (potY value ∷ calls) = clocksOf calls
