@@ -154,18 +154,16 @@ pub fn shifted_charge(captured_charge: [u16; 23], incoming: u16) -> [u16; 23]
     next_charge
 }
 
-// The charges after `load_pulse_coupling`.
-pub fn coupled_charge(charge: [u16; 23], waveform: u16) -> [u16; 23]
-    ensures { λ r. ⌜ r ≡ coupledTo waveform charge 8 ⌝ }
+// `load_pulse_coupling`, where the charges stand.
+pub fn couple(charge: &mut [u16; 23], waveform: u16)
+    ensures { λ _. ⌜ now (charge .exit) ≡ coupledTo waveform (now (charge .entry)) 8 ⌝ }
 {
-    let mut out = charge;
     for line in 0..8usize {
         if is_low(waveform, line) {
             let stage = tap(line);
-            out[stage] = drained(out[stage]);
+            charge[stage] = drained(charge[stage]);
         }
     }
-    out
 }
 
 fn drained(q: u16) -> u16
@@ -174,21 +172,7 @@ fn drained(q: u16) -> u16
     saturating_sub(q, max(q / NOISE_PULSE_CHARGE_DIVISOR, 1))
 }
 
-// The charges, held or captured, after `pull_down`.
-pub fn discharged(charge: [u16; 23], waveform: u16) -> [u16; 23]
-    ensures { λ r. ⌜ r ≡ dischargedTo waveform charge 8 ⌝ }
-{
-    let mut out = charge;
-    for line in 0..8usize {
-        if is_low(waveform, line) {
-            let stage = tap(line);
-            out[stage] = 0;
-        }
-    }
-    out
-}
-
-// `discharged`, where the charges stand.
+// The charges, held or captured, in `pull_down`, where they stand.
 fn discharge(charge: &mut [u16; 23], waveform: u16)
     ensures { λ _. ⌜ now (charge .exit) ≡ dischargedTo waveform (now (charge .entry)) 8 ⌝ }
 {
@@ -582,8 +566,8 @@ impl NoiseGenerator {
     {
         let numbers = self.numbers;
         let captured_charge = self.captured_charge;
-        let before = self.charge;
-        let charge = coupled_charge(before, waveform);
+        let mut charge = self.charge;
+        couple(&mut charge, waveform);
         NoiseGenerator {
             numbers,
             captured_charge,
@@ -594,22 +578,13 @@ impl NoiseGenerator {
     pub fn pull_down(self, waveform: u16, cycle: u64) -> NoiseGenerator
         ensures { λ r. ⌜ r ≡ pulledDown self waveform cycle ⌝ }
     {
-        let n = self.numbers;
-        let captured_before = self.captured_charge;
-        let before = self.charge;
-        let numbers = n.pull(waveform, cycle);
-        let charge = discharged(before, waveform);
-        if n.affects_capture(cycle) {
-            let captured_charge = discharged(captured_before, waveform);
-            return NoiseGenerator {
-                numbers,
-                captured_charge,
-                charge,
-            };
-        }
+        let before = self.numbers;
+        let mut captured_charge = self.captured_charge;
+        let mut charge = self.charge;
+        let numbers = before.pull_down_lent(waveform, cycle, &mut captured_charge, &mut charge);
         NoiseGenerator {
             numbers,
-            captured_charge: captured_before,
+            captured_charge,
             charge,
         }
     }
@@ -720,7 +695,6 @@ impl Noise {
         discharge(charge, waveform);
         if self.affects_capture(cycle) {
             discharge(captured_charge, waveform);
-            return self.pull(waveform, cycle);
         }
         self.pull(waveform, cycle)
     }

@@ -1,5 +1,5 @@
+pub mod Due
 pub mod Feedback
 pub mod Floats
 pub mod Parts
 pub mod Pulse
-pub mod Still

@@ -1,41 +1,18 @@
 -- One tick of a voice out of its parts, for a loop that holds them apart.
 -- Assumes nothing.
-use mathlib.Core.Path.{_≡_, refl, ap, _∙_}
-use mathlib.Core.Bool.{Bool, true, false, cond, _&&_}
-use mathlib.Core.List.{List}
+use mathlib.Core.Path.{_≡_}
+use mathlib.Core.Bool.{Bool, true, false, cond}
 use Prim.Native.Nat.{ℕ, _%_}
 use native.Mathlib.Omega.{arith}
-use Rattle.noise.specs.Noise.{generator, coupledTo, coupled, stepped}
-use Rattle.noise.specs.declared.Noise.{Noise}
+use Rattle.noise.specs.Noise.{stepped}
 use Rattle.noise.specs.declared.NoiseGenerator.{NoiseGenerator}
-use Rattle.floating.specs.Floating.{leaks, sampled}
+use Rattle.floating.specs.Floating.{sampled}
 use Rattle.floating.specs.declared.FloatingBus.{FloatingBus}
 use Rattle.oscillator.specs.Selection.{isOff}
-use Rattle.oscillator.specs.Oscillator.{selected, rising, clockedTone, clocked, comparedTone, waveformAt, code, sampledBus, evaluated, fedBackTone, fedBack, latchedTone, couples, coupledNoise, latchedNoise, latchedCode, voiced, ticked, sampleDue}
+use Rattle.oscillator.specs.Oscillator.{selected, rising, clockedTone, clocked, comparedTone, waveformAt, code, sampledBus, evaluated, fedBackTone, fedBack, latchedTone, latchedNoise, latchedCode, voiced, ticked}
 use Rattle.oscillator.specs.declared.Control.{Control}
 use Rattle.oscillator.specs.declared.Tone.{Tone}
 use Rattle.oscillator.specs.declared.Oscillator.{Oscillator}
-
-module _ (k : Control) (b : FloatingBus) (cycle : ℕ) where
-  pub sample-due : sampleDue k (b .numbers) cycle ≡ true → sampledBus b k cycle ≡ sampled b cycle
-  unfolding sampleDue sampledBus
-  sample-due e = go (isOff (selected k)) e
-    where
-      go : (t : Bool) → (t && leaks (b .numbers) cycle) ≡ true → cond t (sampled b cycle) b ≡ sampled b cycle
-      go true e = refl
-      go false e = ap (λ (x : Bool). cond x (sampled b cycle) b) e
-
--- only the charges that are held are coupled into
-pub couple-charge
-    : (n : Noise) (k : Control) (latched : ℕ) (capturedCharge charge charge′ : List ℕ)
-    → charge′ ≡ cond (couples k) (coupledTo latched charge 8) charge
-    → generator n capturedCharge charge′ ≡ coupledNoise (generator n capturedCharge charge) k latched
-unfolding coupledNoise coupled
-couple-charge n k latched capturedCharge charge charge′ e = ap (generator n capturedCharge) e ∙ go (couples k)
-  where
-    go : (b : Bool) → generator n capturedCharge (cond b (coupledTo latched charge 8) charge) ≡ cond b (coupled (generator n capturedCharge charge) latched) (generator n capturedCharge charge)
-    go true = refl
-    go false = refl
 
 code-small : (k : Control) (t : Tone) (visible floats modulator : ℕ) → code k t visible floats modulator % 4096 ≡ code k t visible floats modulator
 unfolding code waveformAt

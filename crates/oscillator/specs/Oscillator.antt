@@ -282,18 +282,18 @@ unfoldable pub ticks : ℕ → Oscillator → (ℕ → ℕ) → Oscillator
 ticks zero o modulators = o
 ticks (suc n) o modulators = ticked (ticks n o modulators) (modulators n)
 
--- ---- whether a sample and a latch reach an array at all
+-- ---- whether a sample reaches an array at all
 
 unfoldable pub sampleDue : Control → Floating → ℕ → Bool
 sampleDue c f cycle = isOff (selected c) && leaks f cycle
 
-unfoldable pub latchDue : Control → Noise → ℕ → Bool
-latchDue c n cycle = couples c || pullsDown c n cycle
-
--- ---- whether the lines are loaded, and the code where they aren't
+-- ---- the code in three: before lines are loaded, whether they are, and then
 
 unfoldable pub loadsLines : Control → Bool
 loadsLines c = not (eqb (selected c .raw) 9) && needsLoading (selected c .raw)
 
 unfoldable pub plainCode : Control → Tone → ℕ → ℕ → ℕ → ℕ
 plainCode c t visible floats modulator = cond (isOff (selected c)) (floats % 4096) (ideal c t visible modulator % 4096)
+
+unfoldable pub loadedCode : Control → ℕ → ℕ
+loadedCode c plain = loaded (selected c .raw) plain % 4096

@@ -6,10 +6,8 @@ use floating::FloatingBus;
 use noise::Noise;
 use noise::NoiseGenerator;
 ghost use mathlib.Core.Path.{_≡_};
-ghost use mathlib.Core.Bool.{cond};
-ghost use Rattle.noise.specs.Noise.{generator, coupledTo};
 ghost use Rattle.oscillator.specs.Selection.{select, isOff, has as Selection·has, isCombined, joined, combined};
-ghost use Rattle.oscillator.specs.Oscillator.{fresh, rising as Oscillator·rising, clockedTone, clocked as Oscillator·clocked, phase as Oscillator·phase, rings as Oscillator·rings, trianglePhase, pulse as Oscillator·pulse, comparedTone, ideal as Oscillator·ideal, waveformAt, code as Oscillator·code, plainCode, loadsLines, sampledBus, evaluated, feedsBack, fedBackTone, fedBack, latchedTone, couples as Oscillator·couples, noiseIsDriven, pullsDown, coupledNoise, pulledNoise, latchedNoise, latchedCode, writtenControl, writtenBus, exitLoaded, testedNoise, resetPhase, testedTone, written, tuned, writtenFrequencyLo, writtenFrequencyHi, writtenPulseWidthLo, writtenPulseWidthHi, readOutput, outputIsFrozen, synchronised, sampleDue, latchDue};
+ghost use Rattle.oscillator.specs.Oscillator.{fresh, rising as Oscillator·rising, clockedTone, clocked as Oscillator·clocked, phase as Oscillator·phase, rings as Oscillator·rings, trianglePhase, pulse as Oscillator·pulse, comparedTone, ideal as Oscillator·ideal, waveformAt, code as Oscillator·code, plainCode, loadsLines, loadedCode, sampledBus, evaluated, feedsBack, fedBackTone, fedBack, latchedTone, couples as Oscillator·couples, noiseIsDriven, pullsDown, coupledNoise, pulledNoise, latchedNoise, latchedCode, writtenControl, writtenBus, exitLoaded, testedNoise, resetPhase, testedTone, written, tuned, writtenFrequencyLo, writtenFrequencyHi, writtenPulseWidthLo, writtenPulseWidthHi, readOutput, outputIsFrozen, synchronised, sampleDue};
 
 pub struct WaveformSelect {
     pub raw: u8,
@@ -189,7 +187,7 @@ impl Control {
         self.waveform_at_phase(tone, visible, modulator_acc)
     }
 
-    // The same where no lines are loaded, and whether they are: a caller's loop keeps the settling apart.
+    // `code` in three: a caller's loop keeps the settling apart. The code before lines are loaded, whether they are, and the code then.
     pub fn plain_code(self, tone: Tone, visible: u16, floats: u16, modulator_acc: u32) -> u16
         ensures { λ r. ⌜ r ≡ plainCode self tone visible floats «modulator_acc» ⌝ }
     {
@@ -208,6 +206,13 @@ impl Control {
             return false;
         }
         waveforms::needs_line_loading(sel.raw)
+    }
+
+    pub fn loaded_code(self, plain: u16) -> u16
+        ensures { λ r. ⌜ r ≡ loadedCode self plain ⌝ }
+    {
+        let sel = self.selected();
+        waveforms::settled_code(sel.raw, plain) & WAVEFORM_MASK
     }
 
     // Whether `evaluate_output` leaks the floating lines.
@@ -235,7 +240,7 @@ impl Control {
     }
 
     // The tests of `latch_output`.
-    fn couples(self) -> bool
+    pub fn couples(self) -> bool
         ensures { λ r. ⌜ r ≡ Oscillator·couples self ⌝ }
     {
         let sel = self.selected();
@@ -264,7 +269,7 @@ impl Control {
         false
     }
 
-    fn pulls_down(self, noise: Noise, cycle: u64) -> bool
+    pub fn pulls_down(self, noise: Noise, cycle: u64) -> bool
         ensures { λ r. ⌜ r ≡ pullsDown self noise cycle ⌝ }
     {
         let sel = self.selected();
@@ -275,16 +280,6 @@ impl Control {
             return true;
         }
         false
-    }
-
-    // Whether `latch_output` reaches the noise register.
-    pub fn latch_due(self, noise: Noise, cycle: u64) -> bool
-        ensures { λ r. ⌜ r ≡ latchDue self noise cycle ⌝ }
-    {
-        if self.couples() {
-            return true;
-        }
-        self.pulls_down(noise, cycle)
     }
 
     // The four fields of `write_control`.
@@ -496,49 +491,6 @@ fn latched_noise(
 {
     let coupled = coupled_noise(noise, control, latched);
     pulled_noise(coupled, control, latched, cycle)
-}
-
-// The same on charges that are lent and changed where they stand, for a caller's loop.
-impl Control {
-    fn couple_lent(self, latched: u16, charge: &mut [u16; 23])
-        ensures { λ _. ⌜ now (charge .exit) ≡ cond (Oscillator·couples self) (coupledTo latched (now (charge .entry)) 8) (now (charge .entry)) ⌝ }
-    {
-        if self.couples() {
-            let coupled = noise::coupled_charge(*charge, latched);
-            *charge = coupled;
-            return;
-        }
-    }
-
-    fn pull_lent(
-        self,
-        noise: Noise,
-        latched: u16,
-        cycle: u64,
-        captured_charge: &mut [u16; 23],
-        charge: &mut [u16; 23],
-    ) -> Noise
-        ensures { λ r. ⌜ generator r (now («captured_charge» .exit)) (now (charge .exit)) ≡ pulledNoise (generator noise (now («captured_charge» .entry)) (now (charge .entry))) self latched cycle ⌝ }
-    {
-        if self.pulls_down(noise, cycle) {
-            return noise.pull_down_lent(latched, cycle, captured_charge, charge);
-        }
-        noise
-    }
-
-    pub fn latch_lent(
-        self,
-        noise: Noise,
-        latched: u16,
-        cycle: u64,
-        captured_charge: &mut [u16; 23],
-        charge: &mut [u16; 23],
-    ) -> Noise
-        ensures { λ r. ⌜ generator r (now («captured_charge» .exit)) (now (charge .exit)) ≡ latchedNoise (generator noise (now («captured_charge» .entry)) (now (charge .entry))) self latched cycle ⌝ }
-    {
-        self.couple_lent(latched, charge);
-        self.pull_lent(noise, latched, cycle, captured_charge, charge)
-    }
 }
 
 impl Oscillator {

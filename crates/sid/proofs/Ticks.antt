@@ -1,15 +1,19 @@
 -- One tick of the chip out of its parts, which a loop may hold apart. Assumes nothing.
 use mathlib.Core.Path.{_≡_, refl, ap, ap₂, _∙_}
 use mathlib.Core.Bool.{Bool, true, false, cond}
+use mathlib.Core.List.{List}
 use Prim.Native.Nat.{ℕ}
 use Rattle.bus.specs.Bus.{clocked as Bus·clocked}
 use Rattle.bus.specs.declared.InternalDataBus.{InternalDataBus}
 use Rattle.envelope.specs.Envelope.{clocked as Envelope·clocked}
 use Rattle.envelope.specs.declared.Envelope.{Envelope}
-use Rattle.noise.specs.Noise.{stepped}
+use Rattle.noise.specs.Noise.{generator, stepped}
+use Rattle.noise.specs.declared.Noise.{Noise}
 use Rattle.noise.specs.declared.NoiseGenerator.{NoiseGenerator}
+use Rattle.floating.specs.Floating.{lines}
+use Rattle.floating.specs.declared.Floating.{Floating}
 use Rattle.floating.specs.declared.FloatingBus.{FloatingBus}
-use Rattle.oscillator.specs.Oscillator.{rising, clockedTone, comparedTone, code, sampledBus, fedBackTone, latchedTone, latchedNoise, resetPhase, synchronised as Oscillator·synchronised, ticked as Oscillator·ticked}
+use Rattle.oscillator.specs.Oscillator.{rising, clockedTone, comparedTone, code, sampledBus, fedBackTone, latchedTone, coupledNoise, pulledNoise, latchedNoise, resetPhase, synchronised as Oscillator·synchronised, ticked as Oscillator·ticked}
 use Rattle.oscillator.specs.declared.Control.{Control}
 use Rattle.oscillator.specs.declared.Tone.{Tone}
 use Rattle.oscillator.specs.declared.Oscillator.{Oscillator}
@@ -24,22 +28,36 @@ pack k t g b e = record { oscillator = voice k t g b; envelope = e }
 abbrev pub chip : Mos6581 → InternalDataBus → Voice → Voice → Voice → Mos6581
 chip c b v w x = withVoices (withBus c b) v w x
 
+pub same-generator
+    : {n n′ : Noise} {captured captured′ charge charge′ : List ℕ} → n ≡ n′ → captured ≡ captured′ → charge ≡ charge′
+    → generator n captured charge ≡ generator n′ captured′ charge′
+same-generator {n} {n′} {captured} {captured′} {charge} {charge′} p q r =
+    ap (λ (x : Noise). generator x captured charge) p ∙ ap₂ (generator n′) q r
+
+pub same-charge : {n : Noise} {captured charge charge′ : List ℕ} → charge ≡ charge′ → generator n captured charge ≡ generator n captured charge′
+same-charge {n} {captured} r = ap (generator n captured) r
+
+pub same-lines : {f f′ : Floating} {charge charge′ : List ℕ} → f ≡ f′ → charge ≡ charge′ → lines f charge ≡ lines f′ charge′
+same-lines p q = ap₂ lines p q
+
 -- any voice, up to its latch
 pub voice-parts
     : (k : Control) (t : Tone) (g : NoiseGenerator) (b : FloatingBus) (e : Envelope) (modulator : ℕ)
-    (t1 : Tone) (g1 : NoiseGenerator) (b1 : FloatingBus) (output : ℕ) (t2 : Tone) (g2 : NoiseGenerator) (e1 : Envelope)
+    (t1 : Tone) (g1 : NoiseGenerator) (b1 : FloatingBus) (output : ℕ) (t2 : Tone) (g2 g3 : NoiseGenerator) (e1 : Envelope)
     → t1 ≡ clockedTone t k
     → g1 ≡ stepped g (k .«test_enabled») (rising (t .accumulator) (t1 .accumulator)) (t1 .cycle)
     → b1 ≡ sampledBus b k (t1 .cycle)
     → output ≡ code k t1 (g1 .numbers .visible) (b1 .numbers .value) modulator
     → t2 ≡ latchedTone (fedBackTone (comparedTone t1 k) k output) output
-    → g2 ≡ latchedNoise g1 k output (t1 .cycle)
+    → g2 ≡ coupledNoise g1 k output
+    → g3 ≡ pulledNoise g2 k output (t1 .cycle)
     → e1 ≡ Envelope·clocked e
-    → pack k t2 g2 b1 e1 ≡ voiced (clockedVoice (pack k t g b e)) modulator
-unfolding voiced clockedVoice Oscillator·ticked
-voice-parts k t g b e modulator t1 g1 b1 output t2 g2 e1 p q r s u w x =
+    → pack k t2 g3 b1 e1 ≡ voiced (clockedVoice (pack k t g b e)) modulator
+unfolding voiced clockedVoice Oscillator·ticked latchedNoise
+voice-parts k t g b e modulator t1 g1 b1 output t2 g2 g3 e1 p q r s u v w x =
     ap₂ (λ (o : Oscillator) (y : Envelope). record { oscillator = o; envelope = y })
-    (ap₂ (λ (y : Tone) (z : NoiseGenerator). voice k y z b1) u w ∙ tick-parts k t g b modulator t1 g1 b1 output p q r s)
+    (ap₂ (λ (y : Tone) (z : NoiseGenerator). voice k y z b1) u (w ∙ ap (λ (y : NoiseGenerator). pulledNoise y k output (t1 .cycle)) v)
+    ∙ tick-parts k t g b modulator t1 g1 b1 output p q r s)
     x
 
 -- any voice, synchronised or not

@@ -3,14 +3,15 @@ use bus::InternalDataBus;
 use envelope::Envelope;
 use floating::FloatingBus;
 use noise::NoiseGenerator;
+use oscillator::Control;
 use oscillator::Oscillator;
 use oscillator::Tone;
 use refusals::Refusal;
 ghost use mathlib.Core.Path.{_≡_};
 ghost use mathlib.Core.Bool.{cond};
-ghost use Rattle.envelope.specs.Envelope.{clocked as Envelope·clocked};
-ghost use Rattle.oscillator.specs.Oscillator.{resetPhase};
-ghost use Rattle.sid.specs.Sid.{freshVoice, fresh, resetVoice, reset, writtenVoice, writtenTo, written, readDriven, readAt, withPotX, withPotY, syncs as Sid·syncs, ticked, ticks, outputs, codeOf, levelOf, heldOf, code, level, held, told, named};
+ghost use Rattle.envelope.specs.Envelope.{levelRead, rateClocked};
+ghost use Rattle.oscillator.specs.Oscillator.{comparedTone, fedBackTone, latchedTone, resetPhase};
+ghost use Rattle.sid.specs.Sid.{freshVoice, fresh, resetVoice, reset, writtenVoice, writtenTo, written, readDriven, readAt, withPotX, withPotY, syncs, ticked, ticks, outputs, codeOf, levelOf, heldOf, code, level, held, told, named};
 
 pub struct Voice {
     pub oscillator: Oscillator,
@@ -173,41 +174,36 @@ impl Voice {
     }
 }
 
-// The head of the Rust's `clock` of an envelope, so that only its long way is a call in a loop.
-fn clock_envelope(mut e: Envelope) -> Envelope
-    ensures { λ r. ⌜ r ≡ Envelope·clocked e ⌝ }
+// The short way at the head of the Rust's `clock` of an envelope, so that only its long way is a call in a loop.
+fn clock_quiet(mut e: Envelope) -> Envelope
+    ensures { λ r. ⌜ r ≡ rateClocked (levelRead e) ⌝ }
 {
-    if e.quiescent() {
-        e.readback = e.volume;
-        return e.clock_rate_sequence();
-    }
-    e.clock()
+    e.readback = e.volume;
+    e.clock_rate_sequence()
 }
 
-// The conditions of the Rust's `tick`.
-fn syncs(rising: bool, sync: bool, source_sync: bool, source_rising: bool) -> bool
-    ensures { λ r. ⌜ r ≡ Sid·syncs rising sync «source_sync» «source_rising» ⌝ }
+// What a code leaves of the numbers of the oscillator that gave it.
+fn sounded(tone: Tone, control: Control, code: u16) -> Tone
+    ensures { λ r. ⌜ r ≡ latchedTone (fedBackTone (comparedTone tone control) control code) code ⌝ }
 {
-    if rising {
-        if sync {
-            if source_sync {
-                if source_rising {
-                    return false;
+    tone.compared(control).fed_back(control, code).latched(code)
+}
+
+// The conditions of the Rust's `tick`, with the voice's source and the source's source as they were before any synchronisation.
+fn synced(tone: Tone, control: Control, source: Tone, source_control: Control, before: Tone) -> Tone
+    ensures { λ r. ⌜ r ≡ cond (syncs (source .«msb_rising») (control .«sync_enabled») («source_control» .«sync_enabled») (before .«msb_rising»)) (resetPhase tone) tone ⌝ }
+{
+    if source.msb_rising {
+        if control.sync_enabled {
+            if source_control.sync_enabled {
+                if before.msb_rising {
+                    return tone;
                 }
-                return true;
+                return tone.reset_phase();
             }
-            return true;
+            return tone.reset_phase();
         }
-        return false;
-    }
-    false
-}
-
-fn synchronise_if(tone: Tone, taken: bool) -> Tone
-    ensures { λ r. ⌜ r ≡ cond taken (resetPhase tone) tone ⌝ }
-{
-    if taken {
-        return tone.reset_phase();
+        return tone;
     }
     tone
 }
@@ -365,7 +361,9 @@ impl Mos6581 {
         let mut floating_2 = b_2.numbers;
         let mut lines_2 = b_2.charge;
         let mut envelope_2 = v_2.envelope;
-        data_bus = bus::lent_clock(data_bus);
+        if data_bus.value != 0 {
+            data_bus = bus::lent_clock(data_bus);
+        }
         let old_0 = tone_0.accumulator;
         tone_0 = tone_0.clocked(control_0);
         let cycle_0 = tone_0.cycle;
@@ -405,93 +403,83 @@ impl Mos6581 {
                 &mut charge_2,
             );
         }
-        envelope_0 = clock_envelope(envelope_0);
-        envelope_1 = clock_envelope(envelope_1);
-        envelope_2 = clock_envelope(envelope_2);
+        if envelope_0.quiescent() {
+            envelope_0 = clock_quiet(envelope_0);
+        } else {
+            envelope_0 = envelope_0.clock();
+        }
+        if envelope_1.quiescent() {
+            envelope_1 = clock_quiet(envelope_1);
+        } else {
+            envelope_1 = envelope_1.clock();
+        }
+        if envelope_2.quiescent() {
+            envelope_2 = clock_quiet(envelope_2);
+        } else {
+            envelope_2 = envelope_2.clock();
+        }
         if control_0.sample_due(floating_0, cycle_0) {
             floating_0 = floating_0.sample_lent(cycle_0, &mut lines_0);
         }
-        let code_0 = control_0.code(
+        let mut code_0 = control_0.plain_code(
             tone_0,
             noise_0.visible,
             floating_0.value,
             tone_2.accumulator,
         );
-        tone_0 = tone_0.compared(control_0);
-        tone_0 = tone_0.fed_back(control_0, code_0);
-        tone_0 = tone_0.latched(code_0);
-        if control_0.latch_due(noise_0, cycle_0) {
-            noise_0 = control_0.latch_lent(
-                noise_0,
-                code_0,
-                cycle_0,
-                &mut captured_0,
-                &mut charge_0,
-            );
+        if control_0.loads_lines() {
+            code_0 = control_0.loaded_code(code_0);
+        }
+        tone_0 = sounded(tone_0, control_0, code_0);
+        if control_0.couples() {
+            noise::couple(&mut charge_0, code_0);
+        }
+        if control_0.pulls_down(noise_0, cycle_0) {
+            noise_0 = noise_0.pull_down_lent(code_0, cycle_0, &mut captured_0, &mut charge_0);
         }
         if control_1.sample_due(floating_1, cycle_1) {
             floating_1 = floating_1.sample_lent(cycle_1, &mut lines_1);
         }
-        let code_1 = control_1.code(
+        let mut code_1 = control_1.plain_code(
             tone_1,
             noise_1.visible,
             floating_1.value,
             tone_0.accumulator,
         );
-        tone_1 = tone_1.compared(control_1);
-        tone_1 = tone_1.fed_back(control_1, code_1);
-        tone_1 = tone_1.latched(code_1);
-        if control_1.latch_due(noise_1, cycle_1) {
-            noise_1 = control_1.latch_lent(
-                noise_1,
-                code_1,
-                cycle_1,
-                &mut captured_1,
-                &mut charge_1,
-            );
+        if control_1.loads_lines() {
+            code_1 = control_1.loaded_code(code_1);
+        }
+        tone_1 = sounded(tone_1, control_1, code_1);
+        if control_1.couples() {
+            noise::couple(&mut charge_1, code_1);
+        }
+        if control_1.pulls_down(noise_1, cycle_1) {
+            noise_1 = noise_1.pull_down_lent(code_1, cycle_1, &mut captured_1, &mut charge_1);
         }
         if control_2.sample_due(floating_2, cycle_2) {
             floating_2 = floating_2.sample_lent(cycle_2, &mut lines_2);
         }
-        let code_2 = control_2.code(
+        let mut code_2 = control_2.plain_code(
             tone_2,
             noise_2.visible,
             floating_2.value,
             tone_1.accumulator,
         );
-        tone_2 = tone_2.compared(control_2);
-        tone_2 = tone_2.fed_back(control_2, code_2);
-        tone_2 = tone_2.latched(code_2);
-        if control_2.latch_due(noise_2, cycle_2) {
-            noise_2 = control_2.latch_lent(
-                noise_2,
-                code_2,
-                cycle_2,
-                &mut captured_2,
-                &mut charge_2,
-            );
+        if control_2.loads_lines() {
+            code_2 = control_2.loaded_code(code_2);
         }
-        let taken_1 = syncs(
-            tone_0.msb_rising,
-            control_1.sync_enabled,
-            control_0.sync_enabled,
-            tone_2.msb_rising,
-        );
-        let taken_2 = syncs(
-            tone_1.msb_rising,
-            control_2.sync_enabled,
-            control_1.sync_enabled,
-            tone_0.msb_rising,
-        );
-        let taken_0 = syncs(
-            tone_2.msb_rising,
-            control_0.sync_enabled,
-            control_2.sync_enabled,
-            tone_1.msb_rising,
-        );
-        tone_1 = synchronise_if(tone_1, taken_1);
-        tone_2 = synchronise_if(tone_2, taken_2);
-        tone_0 = synchronise_if(tone_0, taken_0);
+        tone_2 = sounded(tone_2, control_2, code_2);
+        if control_2.couples() {
+            noise::couple(&mut charge_2, code_2);
+        }
+        if control_2.pulls_down(noise_2, cycle_2) {
+            noise_2 = noise_2.pull_down_lent(code_2, cycle_2, &mut captured_2, &mut charge_2);
+        }
+        let next_1 = synced(tone_1, control_1, tone_0, control_0, tone_2);
+        let next_2 = synced(tone_2, control_2, tone_1, control_1, tone_0);
+        tone_0 = synced(tone_0, control_0, tone_2, control_2, tone_1);
+        tone_1 = next_1;
+        tone_2 = next_2;
         let noise = NoiseGenerator {
             numbers: noise_0,
             captured_charge: captured_0,
@@ -611,7 +599,9 @@ impl Mos6581 {
         let mut envelope_2 = v_2.envelope;
         let mut i: u64 = 0;
         while i < n {
-            data_bus = bus::lent_clock(data_bus);
+            if data_bus.value != 0 {
+                data_bus = bus::lent_clock(data_bus);
+            }
             let old_0 = tone_0.accumulator;
             tone_0 = tone_0.clocked(control_0);
             let cycle_0 = tone_0.cycle;
@@ -651,93 +641,83 @@ impl Mos6581 {
                     &mut charge_2,
                 );
             }
-            envelope_0 = clock_envelope(envelope_0);
-            envelope_1 = clock_envelope(envelope_1);
-            envelope_2 = clock_envelope(envelope_2);
+            if envelope_0.quiescent() {
+                envelope_0 = clock_quiet(envelope_0);
+            } else {
+                envelope_0 = envelope_0.clock();
+            }
+            if envelope_1.quiescent() {
+                envelope_1 = clock_quiet(envelope_1);
+            } else {
+                envelope_1 = envelope_1.clock();
+            }
+            if envelope_2.quiescent() {
+                envelope_2 = clock_quiet(envelope_2);
+            } else {
+                envelope_2 = envelope_2.clock();
+            }
             if control_0.sample_due(floating_0, cycle_0) {
                 floating_0 = floating_0.sample_lent(cycle_0, &mut lines_0);
             }
-            let code_0 = control_0.code(
+            let mut code_0 = control_0.plain_code(
                 tone_0,
                 noise_0.visible,
                 floating_0.value,
                 tone_2.accumulator,
             );
-            tone_0 = tone_0.compared(control_0);
-            tone_0 = tone_0.fed_back(control_0, code_0);
-            tone_0 = tone_0.latched(code_0);
-            if control_0.latch_due(noise_0, cycle_0) {
-                noise_0 = control_0.latch_lent(
-                    noise_0,
-                    code_0,
-                    cycle_0,
-                    &mut captured_0,
-                    &mut charge_0,
-                );
+            if control_0.loads_lines() {
+                code_0 = control_0.loaded_code(code_0);
+            }
+            tone_0 = sounded(tone_0, control_0, code_0);
+            if control_0.couples() {
+                noise::couple(&mut charge_0, code_0);
+            }
+            if control_0.pulls_down(noise_0, cycle_0) {
+                noise_0 = noise_0.pull_down_lent(code_0, cycle_0, &mut captured_0, &mut charge_0);
             }
             if control_1.sample_due(floating_1, cycle_1) {
                 floating_1 = floating_1.sample_lent(cycle_1, &mut lines_1);
             }
-            let code_1 = control_1.code(
+            let mut code_1 = control_1.plain_code(
                 tone_1,
                 noise_1.visible,
                 floating_1.value,
                 tone_0.accumulator,
             );
-            tone_1 = tone_1.compared(control_1);
-            tone_1 = tone_1.fed_back(control_1, code_1);
-            tone_1 = tone_1.latched(code_1);
-            if control_1.latch_due(noise_1, cycle_1) {
-                noise_1 = control_1.latch_lent(
-                    noise_1,
-                    code_1,
-                    cycle_1,
-                    &mut captured_1,
-                    &mut charge_1,
-                );
+            if control_1.loads_lines() {
+                code_1 = control_1.loaded_code(code_1);
+            }
+            tone_1 = sounded(tone_1, control_1, code_1);
+            if control_1.couples() {
+                noise::couple(&mut charge_1, code_1);
+            }
+            if control_1.pulls_down(noise_1, cycle_1) {
+                noise_1 = noise_1.pull_down_lent(code_1, cycle_1, &mut captured_1, &mut charge_1);
             }
             if control_2.sample_due(floating_2, cycle_2) {
                 floating_2 = floating_2.sample_lent(cycle_2, &mut lines_2);
             }
-            let code_2 = control_2.code(
+            let mut code_2 = control_2.plain_code(
                 tone_2,
                 noise_2.visible,
                 floating_2.value,
                 tone_1.accumulator,
             );
-            tone_2 = tone_2.compared(control_2);
-            tone_2 = tone_2.fed_back(control_2, code_2);
-            tone_2 = tone_2.latched(code_2);
-            if control_2.latch_due(noise_2, cycle_2) {
-                noise_2 = control_2.latch_lent(
-                    noise_2,
-                    code_2,
-                    cycle_2,
-                    &mut captured_2,
-                    &mut charge_2,
-                );
+            if control_2.loads_lines() {
+                code_2 = control_2.loaded_code(code_2);
             }
-            let taken_1 = syncs(
-                tone_0.msb_rising,
-                control_1.sync_enabled,
-                control_0.sync_enabled,
-                tone_2.msb_rising,
-            );
-            let taken_2 = syncs(
-                tone_1.msb_rising,
-                control_2.sync_enabled,
-                control_1.sync_enabled,
-                tone_0.msb_rising,
-            );
-            let taken_0 = syncs(
-                tone_2.msb_rising,
-                control_0.sync_enabled,
-                control_2.sync_enabled,
-                tone_1.msb_rising,
-            );
-            tone_1 = synchronise_if(tone_1, taken_1);
-            tone_2 = synchronise_if(tone_2, taken_2);
-            tone_0 = synchronise_if(tone_0, taken_0);
+            tone_2 = sounded(tone_2, control_2, code_2);
+            if control_2.couples() {
+                noise::couple(&mut charge_2, code_2);
+            }
+            if control_2.pulls_down(noise_2, cycle_2) {
+                noise_2 = noise_2.pull_down_lent(code_2, cycle_2, &mut captured_2, &mut charge_2);
+            }
+            let next_1 = synced(tone_1, control_1, tone_0, control_0, tone_2);
+            let next_2 = synced(tone_2, control_2, tone_1, control_1, tone_0);
+            tone_0 = synced(tone_0, control_0, tone_2, control_2, tone_1);
+            tone_1 = next_1;
+            tone_2 = next_2;
             i += 1;
         }
         let noise = NoiseGenerator {

@@ -5,7 +5,7 @@ use Rattle.noise.proofs.NoiseGenerator.load_pulse_coupling.Tie as tie
 
 returns : tie.Need-returns
 unfolding coupled
-returns c = simp (c .coupled-charge .ensures)
+returns c = simp (c .couple .ensures)
 
 pub load-pulse-coupling-spec : {M : Type 1} → statement M
 load-pulse-coupling-spec = tie.close (tie.spec (λ c κs. search needs) returns)

@@ -1,0 +1,16 @@
+use borrow.Author.Needs.{needs}
+use mathlib.Core.Path.{ap, _∙_, sym}
+use lib.Bits.{and-mask}
+use Rattle.oscillator.specs.Oscillator.{loadedCode}
+use Rattle.oscillator.specs.declared.WaveformSelect.{WaveformSelect}
+use Rattle.oscillator.proofs.Control.loaded_code.Statement.{statement}
+use Rattle.oscillator.proofs.Control.loaded_code.Tie as tie
+
+returns : tie.Need-returns
+unfolding loadedCode
+returns c =
+    let s = ap (λ (x : WaveformSelect). x .raw) (c .before .selected .ensures) in
+    and-mask (c .settled-code .result) 12 ∙ simp (sym s, c .settled-code .ensures)
+
+pub loaded-code-spec : {M : Type 1} → statement M
+loaded-code-spec = tie.close (tie.spec (λ c κs. search needs) (λ c κs. search needs) returns)

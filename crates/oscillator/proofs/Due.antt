@@ -1,0 +1,101 @@
+-- What is done only where it is due: each test, where it is true (`…-due`, `code-loaded`) and where it is false (`…-still`, `code-plain`).
+-- Assumes nothing.
+use Prim.Native.Nat.{ℕ, _%_, _≤_}
+use native.Mathlib.Nat.{le-refl, le-trans}
+use borrow.Author.Tests.{eqb-true}
+use lib.Bits.{bitAnd, and-le-l}
+use mathlib.Core.Bool.{Bool, true, false, cond, not, _&&_, true≢false}
+use mathlib.Core.List.{List}
+use mathlib.Core.Path.{_≡_, refl, ap, sym, _∙_}
+use lib.Dec.{eqb}
+use native.Mathlib.Omega.{arith}
+use Rattle.waveforms.specs.Waveforms.{drivers, needsLoading, loaded}
+use Rattle.noise.specs.Noise.{generator, coupled, coupledTo, pulledDown}
+use Rattle.noise.specs.declared.Noise.{Noise}
+use Rattle.noise.specs.declared.NoiseGenerator.{NoiseGenerator}
+use Rattle.floating.specs.Floating.{leaks, sampled}
+use Rattle.floating.specs.declared.FloatingBus.{FloatingBus}
+use Rattle.oscillator.specs.Oscillator.{selected, ideal, waveformAt, code, loadsLines, plainCode, loadedCode, sampledBus, couples, pullsDown, coupledNoise, pulledNoise, sampleDue}
+use Rattle.oscillator.specs.Selection.{isOff, has, joined, combined}
+use Rattle.oscillator.specs.declared.Control.{Control}
+use Rattle.oscillator.specs.declared.Tone.{Tone}
+
+pub sample-due : (c : Control) (b : FloatingBus) (cycle : ℕ) → sampleDue c (b .numbers) cycle ≡ true → sampledBus b c cycle ≡ sampled b cycle
+unfolding sampleDue sampledBus
+sample-due c b cycle e = go (isOff (selected c)) e
+  where
+    go : (t : Bool) → (t && leaks (b .numbers) cycle) ≡ true → cond t (sampled b cycle) b ≡ sampled b cycle
+    go true e = refl
+    go false e = ap (λ (x : Bool). cond x (sampled b cycle) b) e
+
+pub sample-still : (c : Control) (b : FloatingBus) (cycle : ℕ) → sampleDue c (b .numbers) cycle ≡ false → sampledBus b c cycle ≡ b
+unfolding sampleDue sampledBus sampled
+sample-still c b cycle e = go (isOff (selected c)) e
+  where
+    go : (t : Bool) → (t && leaks (b .numbers) cycle) ≡ false → cond t (sampled b cycle) b ≡ b
+    go true e = simp e
+    go false e = refl
+
+-- only the charges that are held are coupled into
+pub couple-due
+    : (n : Noise) (c : Control) (latched : ℕ) (capturedCharge charge : List ℕ) → couples c ≡ true
+    → coupledNoise (generator n capturedCharge charge) c latched ≡ generator n capturedCharge (coupledTo latched charge 8)
+unfolding coupledNoise coupled
+couple-due n c latched capturedCharge charge e = rw e refl
+
+pub couple-still : (g : NoiseGenerator) (c : Control) (latched : ℕ) → couples c ≡ false → coupledNoise g c latched ≡ g
+unfolding coupledNoise
+couple-still g c latched e = rw e refl
+
+pub pull-due : (g : NoiseGenerator) (c : Control) (latched cycle : ℕ) → pullsDown c (g .numbers) cycle ≡ true → pulledNoise g c latched cycle ≡ pulledDown g latched cycle
+unfolding pulledNoise
+pull-due g c latched cycle e = rw e refl
+
+pub pull-still : (g : NoiseGenerator) (c : Control) (latched cycle : ℕ) → pullsDown c (g .numbers) cycle ≡ false → pulledNoise g c latched cycle ≡ g
+unfolding pulledNoise
+pull-still g c latched cycle e = rw e refl
+
+pub code-plain : (c : Control) (t : Tone) (visible floats m : ℕ) → loadsLines c ≡ false → code c t visible floats m ≡ plainCode c t visible floats m
+unfolding loadsLines code plainCode waveformAt
+code-plain c t visible floats m e = go (eqb (selected c .raw) 9) (needsLoading (selected c .raw)) e
+  where
+    x : ℕ
+    x = ideal c t visible m
+
+    go : (nine load : Bool) → (not nine && load) ≡ false
+        → cond (isOff (selected c)) (floats % 4096) (cond nine x (cond load (loaded (selected c .raw) x) x) % 4096)
+        ≡ cond (isOff (selected c)) (floats % 4096) (x % 4096)
+    go true load h = refl
+    go false true h = absurd (true≢false h)
+    go false false h = refl
+
+-- lines joined from 0xfff fit twelve bits
+ideal-small : (c : Control) (t : Tone) (visible m : ℕ) → isOff (selected c) ≡ false → ideal c t visible m % 4096 ≡ ideal c t visible m
+unfolding ideal combined
+ideal-small c t visible m off = rw off (small _ (le-trans (join 8 visible _) (le-trans (join 4 _ _) (le-trans (join 2 _ _) (join 1 _ 0xfff)))))
+  where
+    small : (x : ℕ) → x ≤ 0xfff → x % 4096 ≡ x
+    small x h = omega (arith, h)
+
+    join : (flag wave lines : ℕ) → joined (selected c) flag wave lines ≤ lines
+    join flag wave lines = go (has (selected c) flag)
+      where
+        go : (h : Bool) → cond h (bitAnd lines wave) lines ≤ lines
+        go true = and-le-l lines wave
+        go false = le-refl lines
+
+none-load : needsLoading 0 ≡ false
+unfolding needsLoading drivers
+none-load = refl
+
+pub code-loaded : (c : Control) (t : Tone) (visible floats m : ℕ) → loadsLines c ≡ true → code c t visible floats m ≡ loadedCode c (plainCode c t visible floats m)
+unfolding loadsLines code plainCode loadedCode waveformAt
+code-loaded c t visible floats m e = go (eqb (selected c .raw) 0) refl (eqb (selected c .raw) 9) (needsLoading (selected c .raw)) refl e
+  where
+    go : (off : Bool) → eqb (selected c .raw) 0 ≡ off → (nine load : Bool) → needsLoading (selected c .raw) ≡ load → (not nine && load) ≡ true
+        → cond off (floats % 4096) (cond nine (ideal c t visible m) (cond load (loaded (selected c .raw) (ideal c t visible m)) (ideal c t visible m)) % 4096)
+        ≡ loaded (selected c .raw) (cond off (floats % 4096) (ideal c t visible m % 4096)) % 4096
+    go off o true load l h = absurd (true≢false (sym h))
+    go off o false false l h = absurd (true≢false (sym h))
+    go true o false true l h = absurd (true≢false (sym l ∙ ap needsLoading (eqb-true _ _ o) ∙ none-load))
+    go false o false true l h = ap (λ (x : ℕ). loaded (selected c .raw) x % 4096) (sym (ideal-small c t visible m o))
