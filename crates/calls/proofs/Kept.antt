@@ -1,15 +1,17 @@
--- What a reset keeps, what OSC3 and ENV3 give, and that a tick moves the cycle of any voice on by one. Assumes nothing.
-use mathlib.Core.Path.{_≡_, refl, _∙_}
+-- What a reset keeps; the cycle of any voice after any calls, and that the three always agree. Assumes nothing.
+use mathlib.Core.Path.{_≡_, refl, ap, sym, _∙_}
 use mathlib.Core.Bool.{Bool, true, false}
-use Prim.Native.Nat.{ℕ, _/_, _%_, _^_}
+use mathlib.Core.List.{List, [], _∷_}
+use Prim.Native.Nat.{ℕ}
 use Rattle.laws.specs.Cycle.{after as Cycle·after}
 use Rattle.envelope.specs.Envelope.{reset as Envelope·reset}
 use Rattle.oscillator.specs.Oscillator.{fresh as Oscillator·fresh, resetPhase, synchronised as Oscillator·synchronised, ticked as Oscillator·ticked}
 use Rattle.oscillator.proofs.Floats.{tick-cycle}
-use Rattle.sid.specs.Sid.{register, resetVoice, reset, readDriven, readAt, clockedVoice, clocked, voiced, voiced0, voiced1, voiced2, synchronisedIf, synchronised, ticked}
+use Rattle.sid.specs.Sid.{fresh, resetVoice, reset, clockedVoice, voiced, synchronisedIf, ticked, Call, write, read, tick, clear, potX, potY, called, after}
 use Rattle.sid.specs.declared.Voice.{Voice}
 use Rattle.sid.specs.declared.Mos6581.{Mos6581}
-use Rattle.calls.specs.Calls.{Which, first, second, third, of}
+use Rattle.calls.specs.Calls.{Which, first, second, third, of, cycleOf, cycleAfter, Agree}
+use Rattle.calls.proofs.Voices.{Face, tick-voice, read-voice, pot-x-voice, pot-y-voice, reset-voice, fresh-voice, write-face}
 
 -- 'Reset keeps level and rate phase', the phase, and the pots
 pub reset-keeps
@@ -22,31 +24,43 @@ reset-keeps first c = (refl, refl, refl, refl, refl)
 reset-keeps second c = (refl, refl, refl, refl, refl)
 reset-keeps third c = (refl, refl, refl, refl, refl)
 
--- 'OSC3 is the top eight bits of voice 2's code, ENV3 its readback'
-pub read-osc3 : (c : Mos6581) (address : ℕ) → register address ≡ 0x1b → readAt c address .byte ≡ c .«voice_2» .oscillator .tone .readback / 2 ^ 4 % 256
-unfolding readAt readDriven
-read-osc3 c address e = simp e
-
-pub read-env3 : (c : Mos6581) (address : ℕ) → register address ≡ 0x1c → readAt c address .byte ≡ c .«voice_2» .envelope .readback
-unfolding readAt readDriven
-read-env3 c address e = simp e
-
 -- ---- the cycle
 
-abbrev cycle : Voice → ℕ
-cycle v = v .oscillator .tone .cycle
+reset-cycle : (w : Which) (c : Mos6581) → cycleOf (of w (reset c)) ≡ 0
+unfolding resetVoice Oscillator·fresh
+reset-cycle w c = ap cycleOf (reset-voice w c)
 
-sync-cycle : (taken : Bool) (v : Voice) → cycle (synchronisedIf taken v) ≡ cycle v
-unfolding synchronisedIf Oscillator·synchronised resetPhase
-sync-cycle true v = refl
-sync-cycle false v = refl
+voice-cycle : (taken : Bool) (v : Voice) (modulator : ℕ) → cycleOf (synchronisedIf taken (voiced (clockedVoice v) modulator)) ≡ Cycle·after (cycleOf v) 1
+unfolding synchronisedIf voiced clockedVoice Oscillator·synchronised resetPhase Oscillator·ticked
+voice-cycle true v modulator = tick-cycle (v .oscillator) modulator
+voice-cycle false v modulator = tick-cycle (v .oscillator) modulator
 
-voice-cycle : (v : Voice) (modulator : ℕ) → cycle (voiced (clockedVoice v) modulator) ≡ Cycle·after (cycle v) 1
-unfolding voiced clockedVoice Oscillator·ticked
-voice-cycle v modulator = tick-cycle (v .oscillator) modulator
+pub tick-cycles : (w : Which) (c : Mos6581) → cycleOf (of w (ticked c)) ≡ Cycle·after (cycleOf (of w c)) 1
+tick-cycles w c =
+    let t = tick-voice w c in
+    ap cycleOf (t .same) ∙ voice-cycle (t .taken) (of w c) (t .modulator)
 
-pub tick-cycles : (w : Which) (c : Mos6581) → cycle (of w (ticked c)) ≡ Cycle·after (cycle (of w c)) 1
-unfolding ticked synchronised voiced0 voiced1 voiced2 clocked
-tick-cycles first c = sync-cycle _ _ ∙ voice-cycle _ _
-tick-cycles second c = sync-cycle _ _ ∙ voice-cycle _ _
-tick-cycles third c = sync-cycle _ _ ∙ voice-cycle _ _
+pub cycle-after : (w : Which) (calls : List Call) (c : Mos6581) → cycleOf (of w (after calls c)) ≡ cycleAfter calls (cycleOf (of w c))
+unfolding after called cycleAfter
+cycle-after w [] c = refl
+cycle-after w (write address value ∷ calls) c =
+    cycle-after w calls (called (write address value) c) ∙ ap (λ (f : Face). cycleAfter calls (f .cycle)) (write-face w c address value)
+cycle-after w (read address ∷ calls) c = cycle-after w calls (called (read address) c) ∙ ap (λ (v : Voice). cycleAfter calls (cycleOf v)) (read-voice w c address)
+cycle-after w (tick ∷ calls) c = cycle-after w calls (called tick c) ∙ ap (cycleAfter calls) (tick-cycles w c)
+cycle-after w (clear ∷ calls) c = cycle-after w calls (called clear c) ∙ ap (cycleAfter calls) (reset-cycle w c)
+cycle-after w (potX value ∷ calls) c = cycle-after w calls (called (potX value) c) ∙ ap (λ (v : Voice). cycleAfter calls (cycleOf v)) (pot-x-voice w c value)
+cycle-after w (potY value ∷ calls) c = cycle-after w calls (called (potY value) c) ∙ ap (λ (v : Voice). cycleAfter calls (cycleOf v)) (pot-y-voice w c value)
+
+-- THE THREE CYCLES AGREE after any calls, if they did before; those of a fresh chip do, and a reset makes them
+pub cycles-agree : (calls : List Call) (c : Mos6581) → Agree c → Agree (after calls c)
+cycles-agree calls c h v w = cycle-after v calls c ∙ ap (cycleAfter calls) (h v w) ∙ sym (cycle-after w calls c)
+
+pub cycles-agree-reset : (c : Mos6581) → Agree (reset c)
+cycles-agree-reset c v w = reset-cycle v c ∙ sym (reset-cycle w c)
+
+fresh-cycle : (w : Which) → cycleOf (of w fresh) ≡ 0
+unfolding Oscillator·fresh
+fresh-cycle w = ap cycleOf (fresh-voice w)
+
+pub cycles-agree-fresh : (calls : List Call) → Agree (after calls fresh)
+cycles-agree-fresh calls = cycles-agree calls fresh (λ v w. fresh-cycle v ∙ sym (fresh-cycle w))

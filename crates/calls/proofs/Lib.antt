@@ -1,3 +1,5 @@
+pub mod Floats
 pub mod Kept
+pub mod Latched
 pub mod Lifted
 pub mod Voices

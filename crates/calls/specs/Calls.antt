@@ -1,11 +1,14 @@
--- Any run of calls, seen from one voice and from the bus: which calls a law allows in between.
-use Prim.Native.Nat.{ℕ, suc, _+_, _-_, _/_, _%_, _≤_}
+-- Any run of calls (`after calls chip`), seen from one voice and from the bus: which calls a law allows in between, and what the laws say.
+-- Demand 3 (`chip-demand-3`) and the fading byte (`read-fades`) stand in proofs/Lifted, the floating code (`chip-floats`) in proofs/Floats, the code,
+-- OSC3 and ENV3 (`code-after-tick`, `read-osc3-after-tick`, `read-env3-after-tick`) in proofs/Latched, cycles and resets (`cycles-agree`, `reset-keeps`) in proofs/Kept.
+use Prim.Native.Nat.{ℕ, suc, _+_, _-_, _/_, _%_, _^_, _<_, _≤_}
 use mathlib.Core.Path.{_≡_}
 use mathlib.Core.Bool.{Bool, true, false, not, _&&_, _||_}
-use mathlib.Core.List.{List, [], _∷_}
+use mathlib.Core.List.{List, [], _∷_, _++_}
 use lib.Dec.{eqb, ltb}
+use Rattle.laws.specs.Cycle.{after as Cycle·after}
 use Rattle.release.specs.Release.{steps, landing, Needs}
-use Rattle.sid.specs.Sid.{register, Call, write, read, tick, clear, potX, potY, after, clocksOf, levelOf, heldOf}
+use Rattle.sid.specs.Sid.{register, Call, write, read, tick, clear, potX, potY, after, clocksOf, codeOf, levelOf, heldOf}
 use Rattle.sid.specs.declared.Voice.{Voice}
 use Rattle.sid.specs.declared.Mos6581.{Mos6581}
 
@@ -24,6 +27,20 @@ abbrev pub of : Which → Mos6581 → Voice
 of first c = c .«voice_0»
 of second c = c .«voice_1»
 of third c = c .«voice_2»
+
+-- the address of a voice's control register
+abbrev pub controlOf : Which → ℕ
+controlOf first = 0x04
+controlOf second = 0x0b
+controlOf third = 0x12
+
+abbrev pub waveformOf : Voice → ℕ
+waveformOf v = v .oscillator .control .waveform
+
+abbrev pub cycleOf : Voice → ℕ
+cycleOf v = v .oscillator .tone .cycle
+
+-- ---- which calls a law allows
 
 -- every call of a run is one that a law allows
 pub data Each (allows : Call → Bool) : List Call → Type 0 where
@@ -52,6 +69,32 @@ undriven clear = false
 undriven (potX value) = true
 undriven (potY value) = true
 
+-- 'Left so, without reset': no write to the voice's control register selects a waveform
+unfoldable pub leavesOff : Which → Call → Bool
+leavesOff w (write address value) = not (eqb (register address) (controlOf w)) || eqb (value / 2 ^ 4) 0
+leavesOff w (read address) = true
+leavesOff w tick = true
+leavesOff w clear = false
+leavesOff w (potX value) = true
+leavesOff w (potY value) = true
+
+-- neither a tick nor a reset
+unfoldable pub idle : Call → Bool
+idle (write address value) = true
+idle (read address) = true
+idle tick = false
+idle clear = false
+idle (potX value) = true
+idle (potY value) = true
+
+-- the last call of a run that isn't idle, if there is one: a run has one of these shapes (`last-of`)
+pub data Last : List Call → Type 0 where
+  idles : {calls : List Call} → Each idle calls → Last calls
+  ticks : (calls more : List Call) → Each idle more → Last (calls ++ (tick ∷ more))
+  clears : (calls more : List Call) → Each idle more → Last (calls ++ (clear ∷ more))
+
+-- ---- what the laws say
+
 -- Demand 3 of a voice of a chip, for any calls that spare it: only the ticks among them count
 pub record Releases (w : Which) (c : Mos6581) (P : ℕ) : Type 0 where
   -- 'a step down that needs S rate matches lands on clock …'
@@ -69,3 +112,37 @@ pub record Releases (w : Which) (c : Mos6581) (P : ℕ) : Type 0 where
       : (k S D : ℕ) (calls : List Call) → Needs (of w c .envelope) k S D → suc k ≡ steps (of w c .envelope .volume)
       → Each (spares w) calls → landing (of w c .envelope .«rate_phase») P S D ≤ clocksOf calls
       → (levelOf (of w (after calls c)) ≡ 0) × (heldOf (of w (after calls c)) ≡ true)
+
+-- a voice as calls from a fresh chip leave it (`latched-fresh`): the code that it gives is the one that OSC3 shows, and has twelve bits
+pub record Latched (v : Voice) : Type 0 where
+  pub shown : v .oscillator .tone .readback ≡ codeOf v
+  pub twelve : codeOf v < 4096
+
+-- a write 'selecting waveform 0 from another', 'provided the cycle at the capture is below 2^63'
+pub record Captures (w : Which) (c : Mos6581) (address value : ℕ) : Type 0 where
+  pub control : register address ≡ controlOf w
+  pub off : value / 2 ^ 4 ≡ 0
+  pub another : waveformOf (of w c) ≡ 0 → ⊥
+  pub latched : Latched (of w c)
+  pub early : cycleOf (of w c) < 2 ^ 63
+
+-- The floating code of a voice of a chip, for any calls that leave it so: only the ticks among them count
+pub record Floats (w : Which) (c : Mos6581) (code : ℕ) : Type 0 where
+  -- 'a code that isn't 0 is whole for 1,260,019 clocks', and so is one of 0
+  pub whole : (calls : List Call) → Each (leavesOff w) calls → clocksOf calls ≤ 1260019 → codeOf (of w (after calls c)) ≡ code
+  -- 'and zero from clock 1,260,020'
+  pub gone : (calls : List Call) → Each (leavesOff w) calls → 1260020 ≤ clocksOf calls → codeOf (of w (after calls c)) ≡ 0
+
+-- the cycle after calls: a tick moves it on by one, a reset makes it 0
+unfoldable pub cycleAfter : List Call → ℕ → ℕ
+cycleAfter [] cycle = cycle
+cycleAfter (write address value ∷ calls) cycle = cycleAfter calls cycle
+cycleAfter (read address ∷ calls) cycle = cycleAfter calls cycle
+cycleAfter (tick ∷ calls) cycle = cycleAfter calls (Cycle·after cycle 1)
+cycleAfter (clear ∷ calls) cycle = cycleAfter calls 0
+cycleAfter (potX value ∷ calls) cycle = cycleAfter calls cycle
+cycleAfter (potY value ∷ calls) cycle = cycleAfter calls cycle
+
+-- the three cycles agree
+abbrev pub Agree : Mos6581 → Type 0
+Agree c = (v w : Which) → cycleOf (of v c) ≡ cycleOf (of w c)

@@ -1,7 +1,8 @@
 // The floating lines (document 01, 'Oscillator'; FloatingBus of oscillator.rs): twelve lines that keep a code once no waveform drives them.
 // Their numbers stand apart from the array of charges, which is touched only where a leak is due.
+use laws::max;
+use laws::saturating_sub;
 ghost use mathlib.Core.Path.{_≡_};
-ghost use Prim.Native.Nat.{_-_, max};
 ghost use Rattle.laws.specs.Times.{times};
 ghost use Rattle.laws.specs.Charges.{charged};
 ghost use Rattle.floating.specs.Floating.{lines, fresh, captured, lost as Floating·lost, leakStep, leaks as Floating·leaks, retained as Floating·retained, leakedTo, sampled};
@@ -28,24 +29,6 @@ const WAVEFORM_FLOAT_LEAK_INTERVAL_CYCLES: u64 = 8_192;
 const WAVEFORM_FLOAT_CHARGE_MAX: u16 = 65_535;
 
 const WAVEFORM_FLOAT_THRESHOLD: u16 = 18_000;
-
-fn max(a: u16, b: u16) -> u16
-    ensures { λ r. ⌜ r ≡ max a b ⌝ }
-{
-    if a < b {
-        return b;
-    }
-    a
-}
-
-fn saturating_sub(a: u16, b: u16) -> u16
-    ensures { λ r. ⌜ r ≡ a - b ⌝ }
-{
-    if a < b {
-        return 0;
-    }
-    a - b
-}
 
 // The loop of `capture`.
 fn charges_of(value: u16) -> [u16; 12]

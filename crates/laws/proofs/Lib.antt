@@ -1,3 +1,4 @@
+pub mod Bools
 pub mod Build
 pub mod Cond
 pub mod Loops

@@ -1,18 +1,10 @@
 -- What `stepDue` says: where it is false, a clock leaves the register as it is. Assumes nothing.
 use Prim.Native.Nat.{ℕ}
-use mathlib.Core.Bool.{Bool, true, false, _||_}
-use mathlib.Core.Path.{_≡_, refl}
+use mathlib.Core.Bool.{Bool, true, false}
+use mathlib.Core.Path.{_≡_}
+use Rattle.laws.proofs.Bools.{or-left, or-right}
 use Rattle.noise.specs.Noise.{captures, clocked, transfers, transferred, relaxed, stepped, stepDue}
 use Rattle.noise.specs.declared.NoiseGenerator.{NoiseGenerator}
-
-pub or-left : (a b : Bool) → (a || b) ≡ false → a ≡ false
-or-left true b e = e
-or-left false b e = refl
-
-pub or-right : (a b : Bool) → (a || b) ≡ false → b ≡ false
-or-right true true e = e
-or-right true false e = refl
-or-right false b e = e
 
 pub step-still : (g : NoiseGenerator) (test : Bool) (rising cycle : ℕ) → stepDue (g .numbers) test rising cycle ≡ false → stepped g test rising cycle ≡ g
 unfolding stepDue stepped relaxed clocked transferred

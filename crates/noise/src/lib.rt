@@ -1,8 +1,10 @@
 // The noise register (document 01, 'Oscillator'; NoiseGenerator of oscillator.rs): 23 stages, each with a charge.
 // Its numbers stand apart from the two arrays of charges, so that a caller's loop need not touch an array on a clock on which nothing happens:
 // `Noise` has what asks and moves the numbers alone, the functions on one array stand beside it, and `NoiseGenerator` has the Rust's methods.
+use laws::max;
+use laws::saturating_sub;
 ghost use mathlib.Core.Path.{_≡_};
-ghost use Prim.Native.Nat.{_-_, _<_, max};
+ghost use Prim.Native.Nat.{_<_};
 ghost use Rattle.laws.specs.Times.{times};
 ghost use Rattle.laws.specs.Charges.{charged};
 ghost use Rattle.noise.specs.Noise.{generator, tap as Noise·tap, shown, fresh, enteredTest, sampled as Noise·sampled, leftTest, captures as Noise·captures, captureNumbers, clocked, come, transfers as Noise·transfers, feedback as Noise·feedback, shiftedState, incoming as Noise·incoming, shiftedCharge, shiftedNumbers, transferred, recovered as Noise·recovered, relaxedStage, relaxStep, settledTo, relaxed, low, drained as Noise·drained, coupledTo, coupled, dischargedTo, clearedTo, affectsCapture, pulledNumbers, pulledDown, stepped, stepDue, pulseLoadAperture};
@@ -46,24 +48,6 @@ const NOISE_TEST_CHARGE_MAX: u16 = 65_535;
 const NOISE_TEST_LOGIC_THRESHOLD: u16 = 32_768;
 
 const NOISE_PULSE_CHARGE_DIVISOR: u16 = 14;
-
-fn max(a: u16, b: u16) -> u16
-    ensures { λ r. ⌜ r ≡ max a b ⌝ }
-{
-    if a < b {
-        return b;
-    }
-    a
-}
-
-fn saturating_sub(a: u16, b: u16) -> u16
-    ensures { λ r. ⌜ r ≡ a - b ⌝ }
-{
-    if a < b {
-        return 0;
-    }
-    a - b
-}
 
 fn tap(line: usize) -> usize
     requires { ⌜ line < 8 ⌝ }

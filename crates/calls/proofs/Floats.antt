@@ -1,0 +1,232 @@
+-- The floating waveform: selecting waveform 0 from another captures the last code; left so, it is whole for 1,260,019 clocks and zero from clock
+-- 1,260,020, for any voice and any run of calls. Assumes nothing.
+use mathlib.Core.Path.{_≡_, refl, ap, ap₂, sym, subst, _∙_}
+use mathlib.Core.Bool.{Bool, true, false, not, _||_, false≢true}
+use mathlib.Core.List.{List, [], _∷_}
+use Prim.Native.Nat.{ℕ, zero, suc, _+_, _*_, _/_, _%_, _^_, _<_, _≤_}
+use native.Mathlib.Omega.{arith}
+use lib.Dec.{eqb}
+use borrow.Author.Tests.{eq-eqb, eqb-true, eqb-false}
+use Rattle.laws.specs.Cycle.{after as Cycle·after}
+use Rattle.laws.proofs.Bools.{implies}
+use Rattle.laws.proofs.Cond.{by-test}
+use Rattle.floating.specs.Floating.{captured, sampled, samples}
+use Rattle.floating.specs.declared.FloatingBus.{FloatingBus}
+use Rattle.floating.proofs.Fade.{sampled-empty, lines-whole, lines-gone}
+use Rattle.oscillator.specs.Oscillator.{writtenControl, writtenBus, resetPhase, written as Oscillator·written, synchronised as Oscillator·synchronised, ticked as Oscillator·ticked}
+use Rattle.oscillator.specs.declared.Control.{Control}
+use Rattle.oscillator.specs.declared.Oscillator.{Oscillator}
+use Rattle.oscillator.proofs.Floats.{tick-control, tick-cycle, tick-lines, tick-floats, write-captures}
+use Rattle.sid.specs.Sid.{register, writtenVoice, writtenTo, written, readAt, clockedVoice, voiced, synchronisedIf, ticked, codeOf, Call, write, read, tick, clear, potX, potY, called, after, clocksOf}
+use Rattle.sid.specs.declared.Voice.{Voice}
+use Rattle.sid.specs.declared.Mos6581.{Mos6581}
+use Rattle.calls.specs.Calls.{Which, first, second, third, number, of, controlOf, waveformOf, cycleOf, Each, none, next, leavesOff, Captures, Floats}
+use Rattle.calls.proofs.Voices.{Face, tick-voice, read-voice, pot-x-voice, pot-y-voice, write-voice, write-face}
+use Rattle.calls.proofs.Latched.{latched-after, read-osc3}
+
+-- a voice with waveform 0 selected at a cycle, that gives what its lines show
+record Drifts (v : Voice) (b : FloatingBus) (cycle : ℕ) : Type 0 where
+  off : waveformOf v ≡ 0
+  lines : v .oscillator .bus ≡ b
+  now : cycleOf v ≡ cycle
+  code : codeOf v ≡ b .numbers .value % 4096
+
+-- ---- a tick samples the lines
+
+voice-drifts
+    : (v : Voice) (modulator : ℕ) (b : FloatingBus) (cycle : ℕ)
+    → Drifts v b cycle
+    → Drifts (voiced (clockedVoice v) modulator) (sampled b (Cycle·after cycle 1)) (Cycle·after cycle 1)
+unfolding voiced clockedVoice Oscillator·ticked
+voice-drifts v modulator b cycle d =
+    let o = v .oscillator in
+    let none : o .control .waveform % 16 ≡ 0 = ap (λ (x : ℕ). x % 16) (d .off) in
+    let at = ap₂ (λ (x : FloatingBus) (n : ℕ). sampled x (Cycle·after n 1)) (d .lines) (d .now) in
+    record {
+      off = ap (λ (k : Control). k .waveform) (tick-control o modulator) ∙ d .off;
+      lines = tick-lines o modulator none ∙ at;
+      now = tick-cycle o modulator ∙ ap (λ (n : ℕ). Cycle·after n 1) (d .now);
+      code = tick-floats o modulator none ∙ ap (λ (x : FloatingBus). x .numbers .value % 4096) at;
+    }
+
+sync-drifts : (taken : Bool) (v : Voice) (b : FloatingBus) (cycle : ℕ) → Drifts v b cycle → Drifts (synchronisedIf taken v) b cycle
+unfolding synchronisedIf Oscillator·synchronised resetPhase
+sync-drifts true v b cycle d = record { off = d .off; lines = d .lines; now = d .now; code = d .code }
+sync-drifts false v b cycle d = d
+
+tick-drifts : (w : Which) (c : Mos6581) (b : FloatingBus) (cycle : ℕ) → Drifts (of w c) b cycle → Drifts (of w (ticked c)) (sampled b (Cycle·after cycle 1)) (Cycle·after cycle 1)
+tick-drifts w c b cycle d =
+    let t = tick-voice w c in
+    subst (λ (u : Voice). Drifts u (sampled b (Cycle·after cycle 1)) (Cycle·after cycle 1)) (sym (t .same))
+    (sync-drifts (t .taken) (voiced (clockedVoice (of w c)) (t .modulator)) _ _ (voice-drifts (of w c) (t .modulator) b cycle d))
+
+-- ---- a write that selects no waveform leaves selection and lines
+
+-- selection and lines, after a write of a voice's register
+record Stays (v : Voice) (o : Oscillator) : Type 0 where
+  off : o .control .waveform ≡ waveformOf v
+  lines : o .bus ≡ v .oscillator .bus
+
+control-stays : (v : Voice) (value : ℕ) → waveformOf v ≡ 0 → value / 2 ^ 4 ≡ 0 → Stays v (Oscillator·written (v .oscillator) value)
+unfolding Oscillator·written writtenControl writtenBus
+control-stays v value z e = record { off = e ∙ sym z; lines = simp (z, e) }
+
+register-stays : (v : Voice) (r value : ℕ) → waveformOf v ≡ 0 → (r ≡ 4 → value / 2 ^ 4 ≡ 0) → Stays v (writtenVoice v r value .oscillator)
+unfolding writtenVoice
+register-stays v r value z h =
+    let P = Stays v in
+    by-test P (eqb r 0) _ _ (λ _. record { off = refl; lines = refl })
+    (λ _. by-test P (eqb r 1) _ _ (λ _. record { off = refl; lines = refl })
+    (λ _. by-test P (eqb r 2) _ _ (λ _. record { off = refl; lines = refl })
+    (λ _. by-test P (eqb r 3) _ _ (λ _. record { off = refl; lines = refl })
+    (λ _. by-test P (eqb r 4) _ _ (λ e. control-stays v value z (h (eqb-true r 4 e))) (λ _. record { off = refl; lines = refl })))))
+
+-- the control register of voice n is 7 n + 4
+control-at : (w : Which) → controlOf w ≡ 7 * number w + 4
+control-at first = refl
+control-at second = refl
+control-at third = refl
+
+write-stays
+    : (w : Which) (c : Mos6581) (address value : ℕ)
+    → (not (eqb (register address) (controlOf w)) || eqb (value / 2 ^ 4) 0) ≡ true
+    → waveformOf (of w c) ≡ 0
+    → Stays (of w c) (of w (written c address value) .oscillator)
+unfolding writtenTo
+write-stays w c address value h z =
+    subst (λ (u : Voice). Stays (of w c) (u .oscillator)) (sym (write-voice w c address value))
+    (by-test (λ (u : Voice). Stays (of w c) (u .oscillator)) (eqb (register address / 7) (number w)) _ _
+    (λ e. register-stays (of w c) (register address % 7) value z (λ q. none (eqb-true (register address / 7) (number w) e) q))
+    (λ _. record { off = refl; lines = refl }))
+  where
+    none : register address / 7 ≡ number w → register address % 7 ≡ 4 → value / 2 ^ 4 ≡ 0
+    none p q =
+        eqb-true (value / 2 ^ 4) 0
+        (implies (eqb (register address) (controlOf w)) _ h
+        (eq-eqb (register address) (controlOf w) (omega (arith, control-at w, p, q))))
+
+write-drifts
+    : (w : Which) (c : Mos6581) (address value : ℕ) (b : FloatingBus) (cycle : ℕ)
+    → (not (eqb (register address) (controlOf w)) || eqb (value / 2 ^ 4) 0) ≡ true
+    → Drifts (of w c) b cycle
+    → Drifts (of w (written c address value)) b cycle
+write-drifts w c address value b cycle h d =
+    let s = write-stays w c address value h (d .off) in
+    let f = write-face w c address value in
+    record {
+      off = s .off ∙ d .off;
+      lines = s .lines ∙ d .lines;
+      now = ap (λ (x : Face). x .cycle) f ∙ d .now;
+      code = ap (λ (x : Face). x .code) f ∙ d .code;
+    }
+
+-- ---- any calls that leave it so sample the lines once a tick
+
+samples-first : (n : ℕ) (b : FloatingBus) (cycle : ℕ) → samples (suc n) b cycle ≡ samples n (sampled b (Cycle·after cycle 1)) (Cycle·after cycle 1)
+unfolding samples
+samples-first zero b cycle = refl
+samples-first (suc n) b cycle = ap₂ sampled (samples-first n b cycle) (omega arith)
+
+code-drifts
+    : (w : Which) (calls : List Call) (c : Mos6581) (b : FloatingBus) (cycle : ℕ)
+    → Each (leavesOff w) calls
+    → Drifts (of w c) b cycle
+    → codeOf (of w (after calls c)) ≡ samples (clocksOf calls) b cycle .numbers .value % 4096
+unfolding after called clocksOf leavesOff samples
+code-drifts w [] c b cycle none d = d .code
+code-drifts w (write address value ∷ calls) c b cycle (next h r) d = code-drifts w calls _ b cycle r (write-drifts w c address value b cycle h d)
+code-drifts w (read address ∷ calls) c b cycle (next h r) d =
+    code-drifts w calls _ b cycle r (subst (λ (u : Voice). Drifts u b cycle) (sym (read-voice w c address)) d)
+code-drifts w (tick ∷ calls) c b cycle (next h r) d =
+    code-drifts w calls _ _ _ r (tick-drifts w c b cycle d)
+    ∙ ap (λ (x : FloatingBus). x .numbers .value % 4096) (sym (samples-first (clocksOf calls) b cycle))
+code-drifts w (clear ∷ calls) c b cycle (next h r) d = absurd (false≢true h)
+code-drifts w (potX value ∷ calls) c b cycle (next h r) d =
+    code-drifts w calls _ b cycle r (subst (λ (u : Voice). Drifts u b cycle) (sym (pot-x-voice w c value)) d)
+code-drifts w (potY value ∷ calls) c b cycle (next h r) d =
+    code-drifts w calls _ b cycle r (subst (λ (u : Voice). Drifts u b cycle) (sym (pot-y-voice w c value)) d)
+
+-- ---- the capture
+
+write-control : (n : ℕ) (v : Voice) (r value : ℕ) → r ≡ 7 * n + 4 → writtenTo n v r value .oscillator ≡ Oscillator·written (v .oscillator) value
+unfolding writtenTo writtenVoice
+write-control n v r value e =
+    let p : r / 7 ≡ n = omega arith in
+    let q : r % 7 ≡ 4 = omega arith in
+    simp (eq-eqb (r / 7) n p, q)
+
+starts
+    : (w : Which) (c : Mos6581) (address value : ℕ)
+    → Captures w c address value
+    → Drifts (of w (written c address value)) (captured (codeOf (of w c)) (cycleOf (of w c))) (cycleOf (of w c))
+unfolding Oscillator·written writtenControl captured
+starts w c address value h =
+    let o = of w c .oscillator in
+    let f = write-face w c address value in
+    let e : of w (written c address value) .oscillator ≡ Oscillator·written o value =
+    ap (λ (v : Voice). v .oscillator) (write-voice w c address value)
+    ∙ write-control (number w) (of w c) (register address) value (h .control ∙ control-at w) in
+    record {
+      off = ap (λ (x : Oscillator). x .control .waveform) e ∙ h .off;
+      lines = ap (λ (x : Oscillator). x .bus) e ∙ write-captures o value (h .off) (h .another);
+      now = ap (λ (x : Face). x .cycle) f;
+      code = ap (λ (x : Face). x .code) f ∙ omega (arith, h .latched .twelve);
+    }
+
+samples-empty : (n : ℕ) (b : FloatingBus) (cycle : ℕ) → b .numbers .value ≡ 0 → samples n b cycle .numbers .value ≡ 0
+unfolding samples
+samples-empty zero b cycle e = e
+samples-empty (suc n) b cycle e =
+    let z = samples-empty n b cycle e in
+    ap (λ (x : FloatingBus). x .numbers .value) (sampled-empty (samples n b cycle) (Cycle·after cycle (suc n)) z) ∙ z
+
+-- lines that took up nothing show nothing, and others what the law of the lines says
+module _ (code cycle : ℕ) (twelve : code < 4096) (early : cycle < 2 ^ 63) (n : ℕ) where
+  captured-empty : code ≡ 0 → samples n (captured code cycle) cycle .numbers .value ≡ 0
+  unfolding captured
+  captured-empty e = samples-empty n (captured code cycle) cycle (ap (λ (x : ℕ). x % 4096) e)
+
+  captured-whole : n ≤ 1260019 → samples n (captured code cycle) cycle .numbers .value % 4096 ≡ code
+  captured-whole h = go (eqb code 0) refl
+    where
+      go : (t : Bool) → eqb code 0 ≡ t → samples n (captured code cycle) cycle .numbers .value % 4096 ≡ code
+      go true e =
+          let z : code ≡ 0 = eqb-true code 0 e in
+          ap (λ (x : ℕ). x % 4096) (captured-empty z) ∙ sym z
+      go false e =
+          let some : (code ≡ 0) → ⊥ = eqb-false code 0 e in
+          ap (λ (x : ℕ). x % 4096) (lines-whole code cycle (λ z. some (omega arith)) early n h) ∙ omega arith
+
+  captured-gone : 1260020 ≤ n → samples n (captured code cycle) cycle .numbers .value % 4096 ≡ 0
+  captured-gone h = go (eqb code 0) refl
+    where
+      go : (t : Bool) → eqb code 0 ≡ t → samples n (captured code cycle) cycle .numbers .value % 4096 ≡ 0
+      go true e = ap (λ (x : ℕ). x % 4096) (captured-empty (eqb-true code 0 e))
+      go false e =
+          let some : (code ≡ 0) → ⊥ = eqb-false code 0 e in
+          ap (λ (x : ℕ). x % 4096) (lines-gone code cycle (λ z. some (omega arith)) early n h)
+
+-- THE FLOATING LAW for any voice and any calls that leave waveform 0 selected
+pub chip-floats : (w : Which) (c : Mos6581) (address value : ℕ) → Captures w c address value → Floats w (written c address value) (codeOf (of w c))
+chip-floats w c address value h =
+    let v = of w c in
+    let d = starts w c address value h in
+    record {
+      whole = λ calls r l. code-drifts w calls _ _ _ r d ∙ captured-whole (codeOf v) (cycleOf v) (h .latched .twelve) (h .early) (clocksOf calls) l;
+      gone = λ calls r l. code-drifts w calls _ _ _ r d ∙ captured-gone (codeOf v) (cycleOf v) (h .latched .twelve) (h .early) (clocksOf calls) l;
+    }
+
+-- and what OSC3 then shows of voice 2
+pub read-osc3-floats
+    : (c : Mos6581) (address value : ℕ)
+    → Captures third c address value
+    → (calls : List Call) (from : ℕ)
+    → Each (leavesOff third) calls
+    → register from ≡ 0x1b
+    → (clocksOf calls ≤ 1260019 → readAt (after calls (written c address value)) from .byte ≡ codeOf (of third c) / 2 ^ 4)
+    × (1260020 ≤ clocksOf calls → readAt (after calls (written c address value)) from .byte ≡ 0)
+unfolding after called
+read-osc3-floats c address value h calls from r e =
+    let k = chip-floats third c address value h in
+    let shows = read-osc3 (after calls (written c address value)) from e (latched-after third (write address value ∷ calls) c (h .latched)) in
+    ((λ n. shows ∙ ap (λ (x : ℕ). x / 2 ^ 4) (k .whole calls r n)), (λ n. shows ∙ ap (λ (x : ℕ). x / 2 ^ 4) (k .gone calls r n)))

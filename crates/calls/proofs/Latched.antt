@@ -1,0 +1,174 @@
+-- The code of any voice is the last latched, OSC3 its top eight bits, and ENV3 the level of one clock before, for any run of calls. Assumes nothing.
+use mathlib.Core.Path.{_≡_, refl, ap, sym, subst, _∙_}
+use mathlib.Core.Bool.{Bool, true, false, false≢true}
+use mathlib.Core.List.{List, [], _∷_, _++_}
+use Prim.Native.Nat.{ℕ, _/_, _%_, _^_, _<_}
+use native.Mathlib.Omega.{arith}
+use Rattle.envelope.specs.Envelope.{fresh as Envelope·fresh, reset as Envelope·reset}
+use Rattle.envelope.specs.declared.Envelope.{Envelope}
+use Rattle.envelope.proofs.Readback.{clock-reads}
+use Rattle.oscillator.specs.Oscillator.{fresh as Oscillator·fresh, latchedTone, latchedCode, resetPhase, synchronised as Oscillator·synchronised, voiced as Oscillator·voiced}
+use Rattle.sid.specs.Sid.{register, fresh, resetVoice, reset, readDriven, readAt, clockedVoice, voiced, synchronisedIf, ticked, codeOf, levelOf, Call, write, read, tick, clear, potX, potY, called, after}
+use Rattle.sid.specs.declared.Voice.{Voice}
+use Rattle.sid.specs.declared.Mos6581.{Mos6581}
+use Rattle.calls.specs.Calls.{Which, third, of, Each, none, next, idle, Last, idles, ticks, clears, Latched}
+use Rattle.calls.proofs.Voices.{tick-voice, tick-envelope, read-voice, pot-x-voice, pot-y-voice, reset-voice, fresh-voice, Face, face, write-face}
+
+-- every run of calls ends with idle calls after a tick, after a reset, or after nothing: the laws `…-after-tick`, `…-after-reset` and `…-while-fresh` leave none out
+last-next : (call : Call) {calls : List Call} → Last calls → Last (call ∷ calls)
+unfolding idle
+last-next call (ticks calls more r) = ticks (call ∷ calls) more r
+last-next call (clears calls more r) = clears (call ∷ calls) more r
+last-next (write address value) (idles r) = idles (next refl r)
+last-next (read address) (idles r) = idles (next refl r)
+last-next tick (idles r) = ticks [] _ r
+last-next clear (idles r) = clears [] _ r
+last-next (potX value) (idles r) = idles (next refl r)
+last-next (potY value) (idles r) = idles (next refl r)
+
+pub last-of : (calls : List Call) → Last calls
+last-of [] = idles none
+last-of (call ∷ calls) = last-next call (last-of calls)
+
+-- calls, then more
+after-join : (calls more : List Call) (c : Mos6581) → after (calls ++ more) c ≡ after more (after calls c)
+unfolding after
+after-join [] more c = refl
+after-join (call ∷ calls) more c = after-join calls more (called call c)
+
+-- calls without tick and reset leave what a voice shows
+idle-face : (w : Which) (calls : List Call) (c : Mos6581) → Each idle calls → face (of w (after calls c)) ≡ face (of w c)
+unfolding after called idle
+idle-face w [] c none = refl
+idle-face w (write address value ∷ calls) c (next h r) = idle-face w calls _ r ∙ write-face w c address value
+idle-face w (read address ∷ calls) c (next h r) = idle-face w calls _ r ∙ ap face (read-voice w c address)
+idle-face w (tick ∷ calls) c (next h r) = absurd (false≢true h)
+idle-face w (clear ∷ calls) c (next h r) = absurd (false≢true h)
+idle-face w (potX value ∷ calls) c (next h r) = idle-face w calls _ r ∙ ap face (pot-x-voice w c value)
+idle-face w (potY value ∷ calls) c (next h r) = idle-face w calls _ r ∙ ap face (pot-y-voice w c value)
+
+-- so it shows what the last tick or reset left
+last-face : (w : Which) (calls : List Call) (call : Call) (more : List Call) (c : Mos6581) → Each idle more → face (of w (after (calls ++ (call ∷ more)) c)) ≡ face (of w (called call (after calls c)))
+unfolding after
+last-face w calls call more c r = ap (λ (x : Mos6581). face (of w x)) (after-join calls (call ∷ more) c) ∙ idle-face w more (called call (after calls c)) r
+
+-- ---- 'its code (the last latched; fresh or reset 0)'
+
+-- only a tick or a reset changes code or level
+pub idle-keeps
+    : (w : Which) (calls : List Call) (c : Mos6581)
+    → Each idle calls
+    → (codeOf (of w (after calls c)) ≡ codeOf (of w c)) × (levelOf (of w (after calls c)) ≡ levelOf (of w c))
+idle-keeps w calls c r =
+    let f = idle-face w calls c r in
+    (ap (λ (x : Face). x .code) f, ap (λ (x : Face). x .level) f)
+
+pub code-after-tick
+    : (w : Which) (calls more : List Call) (c : Mos6581)
+    → Each idle more
+    → codeOf (of w (after (calls ++ (tick ∷ more)) c)) ≡ codeOf (of w (ticked (after calls c)))
+unfolding called
+code-after-tick w calls more c r = ap (λ (f : Face). f .code) (last-face w calls tick more c r)
+
+pub code-after-reset : (w : Which) (calls more : List Call) (c : Mos6581) → Each idle more → codeOf (of w (after (calls ++ (clear ∷ more)) c)) ≡ 0
+unfolding called resetVoice Oscillator·fresh
+code-after-reset w calls more c r = ap (λ (f : Face). f .code) (last-face w calls clear more c r) ∙ ap codeOf (reset-voice w (after calls c))
+
+pub code-while-fresh : (w : Which) (calls : List Call) → Each idle calls → codeOf (of w (after calls fresh)) ≡ 0
+unfolding Oscillator·fresh
+code-while-fresh w calls r = idle-keeps w calls fresh r .0 ∙ ap codeOf (fresh-voice w)
+
+-- ---- 'OSC3 is the top eight bits of voice 2's code'
+
+voice-latched : (taken : Bool) (v : Voice) (modulator : ℕ) → Latched (synchronisedIf taken (voiced (clockedVoice v) modulator))
+unfolding synchronisedIf voiced Oscillator·synchronised resetPhase Oscillator·voiced latchedCode latchedTone
+voice-latched true v modulator = record { shown = refl; twelve = omega arith }
+voice-latched false v modulator = record { shown = refl; twelve = omega arith }
+
+pub tick-latched : (w : Which) (c : Mos6581) → Latched (of w (ticked c))
+tick-latched w c =
+    let t = tick-voice w c in
+    subst Latched (sym (t .same)) (voice-latched (t .taken) (of w c) (t .modulator))
+
+fresh-latched : (accumulator : ℕ) (e : Envelope) → Latched (record { oscillator = Oscillator·fresh accumulator; envelope = e })
+unfolding Oscillator·fresh
+fresh-latched accumulator e = record { shown = refl; twelve = omega arith }
+
+reset-latched : (w : Which) (c : Mos6581) → Latched (of w (reset c))
+unfolding resetVoice
+reset-latched w c = subst Latched (sym (reset-voice w c)) (fresh-latched _ _)
+
+face-latched : (u v : Voice) → face u ≡ face v → Latched v → Latched u
+face-latched u v e h = record {
+  shown = ap (λ (f : Face). f .osc) e ∙ h .shown ∙ sym (ap (λ (f : Face). f .code) e);
+  twelve = subst (λ (x : ℕ). x < 4096) (sym (ap (λ (f : Face). f .code) e)) (h .twelve);
+}
+
+-- any calls keep it, from any chip; so it holds of every chip that calls make of a fresh one
+pub latched-after : (w : Which) (calls : List Call) (c : Mos6581) → Latched (of w c) → Latched (of w (after calls c))
+unfolding after called
+latched-after w [] c h = h
+latched-after w (write address value ∷ calls) c h = latched-after w calls _ (face-latched _ (of w c) (write-face w c address value) h)
+latched-after w (read address ∷ calls) c h = latched-after w calls _ (subst Latched (sym (read-voice w c address)) h)
+latched-after w (tick ∷ calls) c h = latched-after w calls _ (tick-latched w c)
+latched-after w (clear ∷ calls) c h = latched-after w calls _ (reset-latched w c)
+latched-after w (potX value ∷ calls) c h = latched-after w calls _ (subst Latched (sym (pot-x-voice w c value)) h)
+latched-after w (potY value ∷ calls) c h = latched-after w calls _ (subst Latched (sym (pot-y-voice w c value)) h)
+
+pub latched-fresh : (w : Which) (calls : List Call) → Latched (of w (after calls fresh))
+latched-fresh w calls = latched-after w calls fresh (subst Latched (sym (fresh-voice w)) (fresh-latched _ _))
+
+pub read-osc3 : (c : Mos6581) (address : ℕ) → register address ≡ 0x1b → Latched (of third c) → readAt c address .byte ≡ codeOf (of third c) / 2 ^ 4
+unfolding readAt readDriven
+read-osc3 c address e h = simp e (ap (λ (x : ℕ). x / 2 ^ 4 % 256) (h .shown) ∙ omega (arith, h .twelve))
+
+-- of any chip that calls make of a fresh one; and after any calls, a tick, and calls without tick and reset, of any chip
+pub read-osc3-fresh : (calls : List Call) (address : ℕ) → register address ≡ 0x1b → readAt (after calls fresh) address .byte ≡ codeOf (of third (after calls fresh)) / 2 ^ 4
+read-osc3-fresh calls address e = read-osc3 (after calls fresh) address e (latched-fresh third calls)
+
+pub read-osc3-after-tick
+    : (calls more : List Call) (c : Mos6581) (address : ℕ)
+    → Each idle more
+    → register address ≡ 0x1b
+    → readAt (after (calls ++ (tick ∷ more)) c) address .byte ≡ codeOf (of third (ticked (after calls c))) / 2 ^ 4
+unfolding called
+read-osc3-after-tick calls more c address r e =
+    let f = last-face third calls tick more c r in
+    read-osc3 (after (calls ++ (tick ∷ more)) c) address e (face-latched _ _ f (tick-latched third (after calls c)))
+    ∙ ap (λ (x : Face). x .code / 2 ^ 4) f
+
+-- ---- ENV3 is 'its readback': 'the readback takes the old level'; a reset 'sets the readback to the level'
+
+pub read-env3 : (c : Mos6581) (address : ℕ) → register address ≡ 0x1c → readAt c address .byte ≡ of third c .envelope .readback
+unfolding readAt readDriven
+read-env3 c address e = simp e
+
+pub read-env3-after-tick
+    : (calls more : List Call) (c : Mos6581) (address : ℕ)
+    → Each idle more
+    → register address ≡ 0x1c
+    → readAt (after (calls ++ (tick ∷ more)) c) address .byte ≡ levelOf (of third (after calls c))
+unfolding called
+read-env3-after-tick calls more c address r e =
+    read-env3 (after (calls ++ (tick ∷ more)) c) address e
+    ∙ ap (λ (f : Face). f .env) (last-face third calls tick more c r)
+    ∙ ap (λ (x : Envelope). x .readback) (tick-envelope third (after calls c))
+    ∙ clock-reads (of third (after calls c) .envelope)
+
+pub read-env3-after-reset
+    : (calls more : List Call) (c : Mos6581) (address : ℕ)
+    → Each idle more
+    → register address ≡ 0x1c
+    → readAt (after (calls ++ (clear ∷ more)) c) address .byte ≡ levelOf (of third (after calls c))
+unfolding called resetVoice Envelope·reset
+read-env3-after-reset calls more c address r e =
+    read-env3 (after (calls ++ (clear ∷ more)) c) address e
+    ∙ ap (λ (f : Face). f .env) (last-face third calls clear more c r)
+    ∙ ap (λ (v : Voice). v .envelope .readback) (reset-voice third (after calls c))
+
+pub read-env3-while-fresh : (calls : List Call) (address : ℕ) → Each idle calls → register address ≡ 0x1c → readAt (after calls fresh) address .byte ≡ 0xaa
+unfolding Envelope·fresh
+read-env3-while-fresh calls address r e =
+    read-env3 (after calls fresh) address e
+    ∙ ap (λ (f : Face). f .env) (idle-face third calls fresh r)
+    ∙ ap (λ (v : Voice). v .envelope .readback) (fresh-voice third)

@@ -1,0 +1,16 @@
+-- What an `or` tells of its sides. Assumes nothing.
+use mathlib.Core.Path.{_≡_, refl}
+use mathlib.Core.Bool.{Bool, true, false, not, _||_, false≢true}
+
+pub or-left : (a b : Bool) → (a || b) ≡ false → a ≡ false
+or-left true b e = e
+or-left false b e = refl
+
+pub or-right : (a b : Bool) → (a || b) ≡ false → b ≡ false
+or-right true true e = e
+or-right true false e = refl
+or-right false b e = e
+
+pub implies : (a b : Bool) → (not a || b) ≡ true → a ≡ true → b ≡ true
+implies true b h e = h
+implies false b h e = absurd (false≢true e)
