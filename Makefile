@@ -1,4 +1,4 @@
-.PHONY: test lists
+.PHONY: test lists bench
 
 # The gate: proves every crate, tries the must-fail edits, runs the programs.
 test:
@@ -13,3 +13,9 @@ lists:
 	tools/oracle/target/release/oracle list oscillator_states > crates/oscillator_cases/data/states
 	tools/oracle/target/release/oracle list waveforms > crates/waveforms_cases/data/waveforms
 	tools/oracle/target/release/oracle list settling > crates/waveforms_cases/data/settling
+
+# This chip against the original, scene by scene (docs/PERFORMANCE.md). Needs cargo, and the original as for the lists.
+bench:
+	sh tools/bench/archive.sh
+	cd tools/bench && cargo build --release
+	tools/bench/target/release/bench

@@ -1,167 +1,173 @@
-//! Times this repository's chip and the original's voices on the same scenes, in one process.
+//! Plays the same scenes on this repository's chip and on the original's voices, in one process,
+//! and prints how long a clock takes on each and the ratio. The two take turns, and the least
+//! processor time of several rounds counts. A difference in what is heard ends the run with 1.
 
 mod original;
 
 use original::Voices;
 use std::hint::black_box;
+use std::process::ExitCode;
 
+// Crate `bench`; and of C, the processor time of this process in microseconds.
 extern "C" {
-    fn bench_idle(n: u64) -> u64;
-    fn bench_run(control: u8, n: u64) -> u64;
-    fn bench_ticks(control: u8, n: u64) -> u64;
-    fn bench_writes(seed: u16, n: u64, gap: u64) -> u64;
-    /// C's: the processor time of this process, in microseconds.
+    fn bench_idle(clocks: u64) -> u64;
+    fn bench_run(control: u8, clocks: u64) -> u64;
+    fn bench_ticks(control: u8, clocks: u64) -> u64;
+    fn bench_writes(seed: u16, writes: u64, apart: u64) -> u64;
     fn clock() -> i64;
 }
 
-fn digest(codes: [u16; 3], levels: [u8; 3]) -> u64 {
-    (codes[0] as u64) << 48 ^ (codes[1] as u64) << 36 ^ (codes[2] as u64) << 24
-        ^ (levels[0] as u64) << 16 ^ (levels[1] as u64) << 8 ^ levels[2] as u64
-}
-
-fn scene(control: u8) -> Voices {
-    let mut v = Voices::new();
-    for (base, step) in [(0u16, 0x1d45u16), (7, 0x2b11), (14, 0x0f37)] {
-        v.write(base, step as u8);
-        v.write(base + 1, (step >> 8) as u8);
-        v.write(base + 2, 0);
-        v.write(base + 3, 8);
-        v.write(base + 5, 0x29);
-        v.write(base + 6, 0xa9);
-        v.write(base + 4, control);
-    }
-    v
-}
-
-#[inline(never)]
-fn run(v: &mut Voices, n: u64) {
-    for _ in 0..n {
-        v.tick();
-    }
-}
-
-#[inline(never)]
-fn ticks(v: &mut Voices, n: u64) -> u64 {
-    let mut sum = 0u64;
-    for _ in 0..n {
-        let (c, l) = v.tick();
-        sum = sum.wrapping_add(digest(c, l));
-    }
-    sum
-}
-
-fn rust(kind: Kind, n: u64) -> (u64, i64) {
-    unsafe {
-        match kind {
-            Kind::Idle => {
-                let mut v = Voices::new();
-                let t = clock();
-                run(&mut v, n);
-                (digest(v.codes(), v.levels()), clock() - t)
-            }
-            Kind::Run(c) => {
-                let mut v = scene(c);
-                let t = clock();
-                run(&mut v, n);
-                (digest(v.codes(), v.levels()), clock() - t)
-            }
-            Kind::Ticks(c) => {
-                let mut v = scene(c);
-                let t = clock();
-                let d = ticks(&mut v, n);
-                (d, clock() - t)
-            }
-            Kind::Writes(gap) => {
-                let mut v = Voices::new();
-                let t = clock();
-                let mut x: u16 = 5;
-                for _ in 0..n / gap {
-                    x = ((x as u32 ^ 0x5a5a) % 65521) as u16;
-                    x = x.wrapping_add(25173);
-                    let low = x % 25;
-                    let mut high = (x >> 8) as u8;
-                    if low % 7 == 4 {
-                        high %= 16;
-                        if x % 3 == 0 {
-                            high ^= 0x40;
-                        }
-                        if x % 3 == 1 {
-                            high ^= 0x20;
-                        }
-                    }
-                    v.write(low, high);
-                    run(&mut v, gap);
-                }
-                (digest(v.codes(), v.levels()), clock() - t)
-            }
-        }
-    }
-}
-
-fn ours(kind: Kind, n: u64) -> (u64, i64) {
-    unsafe {
-        let t = clock();
-        let d = match kind {
-            Kind::Idle => bench_idle(n),
-            Kind::Run(c) => bench_run(c, n),
-            Kind::Ticks(c) => bench_ticks(c, n),
-            Kind::Writes(gap) => bench_writes(5, n / gap, gap),
-        };
-        (d, clock() - t)
-    }
-}
-
 #[derive(Clone, Copy)]
-enum Kind {
+enum Scene {
     Idle,
     Run(u8),
     Ticks(u8),
     Writes(u64),
 }
+use Scene::*;
 
-fn main() {
-    let n: u64 = 2_000_000;
-    let rounds: usize = std::env::args().nth(1).map_or(5, |s| s.parse().unwrap());
-    let scenes = [
-        ("run idle", Kind::Idle),
-        ("run pulse", Kind::Run(0x41)),
-        ("run noise", Kind::Run(0x81)),
-        ("run writes/100", Kind::Writes(100)),
-        ("run writes/1000", Kind::Writes(1000)),
-        ("run tri+noise", Kind::Run(0x91)),
-        ("run triangle", Kind::Run(0x11)),
-        ("run ring sync", Kind::Run(0x17)),
-        ("run saw", Kind::Run(0x21)),
-        ("run test", Kind::Run(0x49)),
-        ("run comb 3", Kind::Run(0x31)),
-        ("run comb 5", Kind::Run(0x51)),
-        ("run comb 6", Kind::Run(0x61)),
-        ("tick pulse", Kind::Ticks(0x41)),
-        ("tick noise", Kind::Ticks(0x81)),
-        ("tick tri", Kind::Ticks(0x11)),
-        ("tick tri+noise", Kind::Ticks(0x91)),
-        ("tick none", Kind::Ticks(0x01)),
-    ];
-    let only = std::env::args().nth(2).unwrap_or_default();
-    for (name, kind) in scenes {
-        if !name.contains(&only) {
-            continue;
+/// Name, scene and the ratio that is aimed at, if any.
+const SCENES: [(&str, Scene, Option<f64>); 19] = [
+    ("run, fresh chip", Idle, Some(0.85)),
+    ("run, three pulses", Run(0x41), Some(1.0)),
+    ("run, three noises", Run(0x81), Some(1.0)),
+    ("run, a write every 100 clocks", Writes(100), Some(1.0)),
+    ("run, a write every 1000 clocks", Writes(1000), Some(1.0)),
+    ("run, triangle with noise", Run(0x91), Some(1.3)),
+    ("run, triangles", Run(0x11), None),
+    ("run, triangles, ring and sync", Run(0x17), None),
+    ("run, saws", Run(0x21), None),
+    ("run, pulses in test", Run(0x49), None),
+    ("run, selection 3", Run(0x31), None),
+    ("run, selection 5", Run(0x51), None),
+    ("run, selection 6", Run(0x61), None),
+    ("run, selection 7", Run(0x71), None),
+    ("tick, nothing selected", Ticks(0x01), Some(1.8)),
+    ("tick, three pulses", Ticks(0x41), Some(1.8)),
+    ("tick, three noises", Ticks(0x81), Some(1.8)),
+    ("tick, triangles", Ticks(0x11), Some(1.8)),
+    ("tick, triangle with noise", Ticks(0x91), Some(1.8)),
+];
+
+const SEED: u16 = 5;
+
+/// Crate `bench`'s `scene`.
+fn scene(control: u8) -> Voices {
+    let mut voices = Voices::new();
+    for (base, frequency) in [(0, 0x1d45u16), (7, 0x2b11), (14, 0x0f37)] {
+        let [low, high] = frequency.to_le_bytes();
+        for (register, value) in [(0, low), (1, high), (2, 0), (3, 8), (5, 0x29), (6, 0xa9), (4, control)] {
+            voices.write(base + register, value);
         }
-        let mut best = (i64::MAX, i64::MAX);
-        let mut same = true;
-        for _ in 0..rounds {
-            let (a, t) = black_box(rust(kind, n));
-            best.0 = best.0.min(t);
-            let (b, t) = black_box(ours(kind, n));
-            best.1 = best.1.min(t);
-            same &= a == b;
-        }
-        println!(
-            "{name:<16} {:7.1} ns {:7.1} ns  {:.2}{}",
-            best.0 as f64 * 1000.0 / n as f64,
-            best.1 as f64 * 1000.0 / n as f64,
-            best.1 as f64 / best.0 as f64,
-            if same { "" } else { "  DIFFER" }
-        );
     }
+    voices
+}
+
+/// Crate `bench`'s `digest`.
+fn digest(codes: [u16; 3], levels: [u8; 3]) -> u64 {
+    let [c0, c1, c2] = codes.map(u64::from);
+    let [l0, l1, l2] = levels.map(u64::from);
+    c0 + (c1 << 12) + (c2 << 24) + ((l0 + (l1 << 8) + (l2 << 16)) << 39)
+}
+
+#[inline(never)]
+fn run(voices: &mut Voices, clocks: u64) -> u64 {
+    for _ in 0..clocks {
+        voices.tick();
+    }
+    digest(voices.codes(), voices.levels())
+}
+
+#[inline(never)]
+fn ticks(voices: &mut Voices, clocks: u64) -> u64 {
+    let mut sum = 0u64;
+    for _ in 0..clocks {
+        let (codes, levels) = voices.tick();
+        sum = sum.wrapping_add(digest(codes, levels));
+    }
+    sum
+}
+
+#[inline(never)]
+fn stir(voices: &mut Voices, writes: u64, apart: u64) -> u64 {
+    let mut seed = SEED;
+    for _ in 0..writes {
+        seed = seed.wrapping_mul(25173).wrapping_add(13849);
+        let register = seed % 21;
+        let byte = (seed / 256) as u8;
+        let value = if register % 7 == 4 {
+            byte % 16 + (seed % 3 * 32) as u8
+        } else {
+            byte
+        };
+        voices.write(register, value);
+        run(voices, apart);
+    }
+    digest(voices.codes(), voices.levels())
+}
+
+fn timed(play: impl FnOnce() -> u64) -> (u64, i64) {
+    let start = unsafe { clock() };
+    let digest = black_box(play());
+    (digest, unsafe { clock() } - start)
+}
+
+fn original(scene_of: Scene, clocks: u64) -> (u64, i64) {
+    match scene_of {
+        Idle => {
+            let mut voices = Voices::new();
+            timed(|| run(&mut voices, clocks))
+        }
+        Run(control) => {
+            let mut voices = scene(control);
+            timed(|| run(&mut voices, clocks))
+        }
+        Ticks(control) => {
+            let mut voices = scene(control);
+            timed(|| ticks(&mut voices, clocks))
+        }
+        Writes(apart) => {
+            let mut voices = Voices::new();
+            timed(|| stir(&mut voices, clocks / apart, apart))
+        }
+    }
+}
+
+fn ours(scene_of: Scene, clocks: u64) -> (u64, i64) {
+    timed(|| unsafe {
+        match scene_of {
+            Idle => bench_idle(clocks),
+            Run(control) => bench_run(control, clocks),
+            Ticks(control) => bench_ticks(control, clocks),
+            Writes(apart) => bench_writes(SEED, clocks / apart, apart),
+        }
+    })
+}
+
+fn main() -> ExitCode {
+    let mut words = std::env::args().skip(1).map(|word| word.parse::<u64>());
+    let rounds = words.next().map_or(9, |word| word.expect("rounds: a number"));
+    let clocks = words.next().map_or(2_000_000, |word| word.expect("clocks: a number"));
+    println!("{rounds} rounds of {clocks} clocks; ns a clock");
+    println!("{:<32}{:>10}{:>8}{:>8}{:>8}", "", "original", "here", "ratio", "aim");
+    let mut differ = false;
+    for (name, scene_of, aim) in SCENES {
+        let mut least = [i64::MAX; 2];
+        for _ in 0..rounds {
+            let (theirs, time) = original(scene_of, clocks);
+            least[0] = least[0].min(time);
+            let (here, time) = ours(scene_of, clocks);
+            least[1] = least[1].min(time);
+            differ |= theirs != here;
+        }
+        let [theirs, here] = least.map(|time| time as f64 * 1000.0 / clocks as f64);
+        let aim = aim.map_or(String::new(), |aim| format!("{aim:.2}"));
+        println!("{name:<32}{theirs:>10.1}{here:>8.1}{:>8.2}{aim:>8}", here / theirs);
+    }
+    if differ {
+        println!("what is heard DIFFERS");
+        return ExitCode::FAILURE;
+    }
+    println!("what is heard is equal in every scene");
+    ExitCode::SUCCESS
 }

@@ -1,0 +1,12 @@
+use mathlib.Core.Path.{refl}
+use Rattle.bench.specs.Bench.{digest}
+use borrow.Author.Needs.{needs}
+use Rattle.bench.proofs.digest.Statement.{statement}
+use Rattle.bench.proofs.digest.Tie as tie
+
+returns : tie.Need-returns
+unfolding digest
+returns c = refl
+
+pub digest-spec : {M : Type 1} → statement M
+digest-spec = tie.close (tie.spec (λ c. search needs) (λ c. search needs) (λ c. search needs) (λ c. search needs) (λ c. search needs) (λ c. search needs) (λ c. search needs) (λ c. search needs) (λ c. search needs) (λ c. search needs) returns)

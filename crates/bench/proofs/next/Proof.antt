@@ -1,0 +1,12 @@
+use mathlib.Core.Path.{refl}
+use Rattle.bench.specs.Bench.{next}
+use borrow.Author.Needs.{needs}
+use Rattle.bench.proofs.next.Statement.{statement}
+use Rattle.bench.proofs.next.Tie as tie
+
+returns : tie.Need-returns
+unfolding next
+returns c = refl
+
+pub next-spec : {M : Type 1} → statement M
+next-spec = tie.close (tie.spec (λ c. search needs) (λ c. search needs) (λ c. search needs) returns)
