@@ -1,8 +1,18 @@
-.PHONY: test lists bench
+SCORE = scores/first_light
+
+.PHONY: play test scores lists bench
+
+# A score's listing: make play, or make play SCORE=file.
+play:
+	@sh tools/play.sh '$(SCORE)'
 
 # The gate: proves every crate, tries the must-fail edits, runs the programs.
 test:
 	@bash .ci/run
+
+# The bundled score anew from its text.
+scores:
+	sh tools/score.sh scores/first_light.txt > scores/first_light
 
 # The oracle's lists anew, from the original in SID_SOURCE (tools/oracle/README.md).
 lists:

@@ -1,0 +1,117 @@
+// The panel that plays a score: a chip, and the clocks that it has run.
+use listing::Shown;
+use sid::Answer;
+use sid::Mos6581;
+ghost use mathlib.Core.Path.{_≡_};
+ghost use Rattle.sid.specs.Sid.{told};
+ghost use Rattle.panel.specs.Panel.{fresh, ranTo, written, readOf, levels, codeTold, levelTold, shownTold};
+
+pub struct Panel {
+    pub chip: Mos6581,
+    pub clock: u32,
+}
+
+pub struct PanelRead {
+    pub panel: Panel,
+    pub byte: u8,
+}
+
+// What an `L` line says of the three voices.
+pub struct Display {
+    pub voice_0: Shown,
+    pub voice_1: Shown,
+    pub voice_2: Shown,
+}
+
+fn code_told(a: Answer) -> u16
+    ensures { λ r. ⌜ r ≡ codeTold (told a) ⌝ }
+{
+    match a {
+        Answer::Code { code } => code,
+        Answer::Level { level: _ } => 0,
+        Answer::Held { held: _ } => 0,
+        Answer::Refused { why: _, place: _ } => 0,
+    }
+}
+
+fn level_told(a: Answer) -> u8
+    ensures { λ r. ⌜ r ≡ levelTold (told a) ⌝ }
+{
+    match a {
+        Answer::Code { code: _ } => 0,
+        Answer::Level { level } => level,
+        Answer::Held { held: _ } => 0,
+        Answer::Refused { why: _, place: _ } => 0,
+    }
+}
+
+fn shown(chip: Mos6581, voice: u8) -> Shown
+    ensures { λ r. ⌜ r ≡ shownTold chip voice ⌝ }
+{
+    let code = code_told(chip.code(voice));
+    let level = level_told(chip.level(voice));
+    Shown { code, level }
+}
+
+impl Panel {
+    pub fn new() -> Panel
+        ensures { λ r. ⌜ r ≡ fresh ⌝ }
+    {
+        let chip = Mos6581::new();
+        Panel { chip, clock: 0 }
+    }
+
+    // A stamp that has gone by leaves the panel as it is.
+    pub fn run_to(self, stamp: u32) -> Panel
+        ensures { λ r. ⌜ r ≡ ranTo stamp self ⌝ }
+    {
+        let clock = self.clock;
+        if clock < stamp {
+            let c = self.chip;
+            let chip = c.run((stamp - clock) as u64);
+            return Panel { chip, clock: stamp };
+        }
+        self
+    }
+
+    pub fn write(self, address: u8, value: u8) -> Panel
+        ensures { λ r. ⌜ r ≡ written self address value ⌝ }
+    {
+        let c = self.chip;
+        let chip = c.write(address as u16, value);
+        Panel {
+            chip,
+            clock: self.clock,
+        }
+    }
+
+    pub fn read(self, address: u8) -> PanelRead
+        ensures { λ r. ⌜ r ≡ readOf self address ⌝ }
+    {
+        let c = self.chip;
+        let read = c.read(address as u16);
+        let chip = read.chip;
+        let panel = Panel {
+            chip,
+            clock: self.clock,
+        };
+        PanelRead {
+            panel,
+            byte: read.byte,
+        }
+    }
+
+    pub fn levels(self) -> Display
+        ensures { λ r. ⌜ r ≡ levels self ⌝ }
+    {
+        let chip = self.chip;
+        let voice_0 = shown(chip, 0);
+        let voice_1 = shown(chip, 1);
+        let voice_2 = shown(chip, 2);
+        Display {
+            voice_0,
+            voice_1,
+            voice_2,
+        }
+    }
+}

@@ -1,0 +1,3 @@
+pub mod Clocks
+pub mod Loops
+pub mod Played

@@ -1,0 +1,4 @@
+pub mod Calls
+pub mod Into
+pub mod Listing
+pub mod Steps

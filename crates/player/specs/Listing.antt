@@ -1,0 +1,54 @@
+-- What `replay` prints of a score: document 01, 'Score and program'.
+-- A panel plays the fields of an accepted score one after the other, and each may print a line.
+use Prim.Native.Nat.{ℕ}
+use mathlib.Core.List.{List, [], _∷_, _++_}
+use Rattle.listing.specs.Text.{readLine, levelsLine, endLine, refusedLine}
+use Rattle.panel.specs.declared.Panel.{Panel}
+use Rattle.panel.specs.Panel.{fresh, ranTo, written, readOf, levels}
+use Rattle.refusals.specs.Refusals.{told}
+use Rattle.score.specs.declared.Field.{Field}
+use Rattle.score.specs.declared.Field.the-variants.{Write, Read, Levels, End}
+use Rattle.score.specs.Fields.{stampOf}
+use Rattle.score.specs.Scores.{Parsed, good, bad, scoreOf}
+
+-- 'Lines: R stamp address read, L stamp code level …, and E clocks': what a field prints, the panel having run to its stamp
+unfoldable pub lineOf : Field → Panel → List ℕ
+lineOf (Write t a v) p = []
+lineOf (Read t a) p = readLine t a (readOf p a .byte)
+lineOf (Levels t) p = levelsLine t (levels p .«voice_0») (levels p .«voice_1») (levels p .«voice_2»)
+lineOf (End t) p = endLine (p .clock)
+
+-- what a field does to the panel that has run to its stamp
+unfoldable pub doneBy : Field → Panel → Panel
+doneBy (Write t a v) p = written p a v
+doneBy (Read t a) p = readOf p a .panel
+doneBy (Levels t) p = p
+doneBy (End t) p = p
+
+-- the panel at a field's stamp
+abbrev pub atStamp : Field → Panel → Panel
+atStamp f p = ranTo (stampOf f) p
+
+-- 'several fields may share a stamp and run in file order', 'Fields stamped as the end do run': the lines of fields, from a panel on
+unfoldable pub play : List Field → Panel → List ℕ
+play [] p = []
+play (f ∷ fs) p = lineOf f (atStamp f p) ++ play fs (doneBy f (atStamp f p))
+
+-- the panel after fields
+unfoldable pub played : List Field → Panel → Panel
+played [] p = p
+played (f ∷ fs) p = played fs (doneBy f (atStamp f p))
+
+-- 'A refused score gives refused number at place alone'
+abbrev pub listingOf : Parsed → List ℕ
+listingOf (good fs) = play fs fresh
+listingOf (bad r) = refusedLine (told r)
+
+-- 'The score is checked whole before the first clock': from a score's bytes, the bytes of its listing
+unfoldable pub listing : List ℕ → List ℕ
+listing s = listingOf (scoreOf s)
+
+-- the panel after a score: a refused one runs no clock
+abbrev pub panelOf : Parsed → Panel
+panelOf (good fs) = played fs fresh
+panelOf (bad r) = fresh

@@ -1,0 +1,79 @@
+-- A player's steps over a score, one field each.
+use Prim.Native.Nat.{ℕ, zero, suc, _≤_}
+use mathlib.Core.Bool.{Bool, true, false, cond}
+use mathlib.Core.List.{List, [], _++_}
+use mathlib.Core.Path.{_≡_}
+use Rattle.listing.specs.Text.{Put, refusedLine}
+use Rattle.panel.specs.declared.Panel.{Panel}
+use Rattle.panel.specs.Panel.{fresh}
+use Rattle.refusals.specs.declared.Refused.{Refused as Refusing}
+use Rattle.refusals.specs.Refusals.{told}
+use Rattle.score.specs.declared.Checked.{Checked}
+use Rattle.score.specs.declared.Checked.the-variants.{Accepted, Refused as Unaccepted}
+use Rattle.score.specs.declared.Field.{Field}
+use Rattle.score.specs.declared.FieldRead.{FieldRead}
+use Rattle.score.specs.declared.FieldRead.the-variants.{Got, Refused}
+use Rattle.score.specs.Fields.{fieldAt, isEnd}
+use Rattle.score.specs.Scores.{checked}
+use Rattle.player.specs.declared.Player.{Player}
+use Rattle.player.specs.declared.Rest.{Rest}
+use Rattle.player.specs.declared.Rest.the-variants.{Fields, Refusal, Nothing}
+use Rattle.player.specs.declared.Stepped.{Stepped}
+use Rattle.player.specs.Listing.{lineOf, doneBy, atStamp}
+
+abbrev pub player : Panel → Rest → Player
+player p rest = record { panel = p; rest = rest }
+
+-- what a checked score leaves to do
+abbrev pub restBy : Checked → Rest
+restBy (Accepted clocks) = Fields 0
+restBy (Unaccepted r) = Refusal r
+
+unfoldable pub startOf : List ℕ → Player
+startOf s = player fresh (restBy (checked s))
+
+abbrev pub isNothing : Rest → Bool
+isNothing (Fields at) = false
+isNothing (Refusal r) = false
+isNothing Nothing = true
+
+-- a step's two halves: the player after it, and the line
+pub record Turn : Type 0 where
+  pub next : Player
+  pub text : List ℕ
+
+-- the field f, which ends before `next`
+unfoldable pub onField : Panel → Field → ℕ → Turn
+onField p f next = record { next = player (doneBy f (atStamp f p)) (cond (isEnd f) Nothing (Fields next)); text = lineOf f (atStamp f p) }
+
+abbrev pub onRefusal : Panel → Refusing → Turn
+onRefusal p r = record { next = player p Nothing; text = refusedLine (told r) }
+
+abbrev pub onRead : Panel → FieldRead → Turn
+onRead p (Got f next) = onField p f next
+onRead p (Refused r) = onRefusal p r
+
+abbrev pub turnBy : List ℕ → Panel → Rest → Turn
+turnBy s p (Fields at) = onRead p (fieldAt s at)
+turnBy s p (Refusal r) = onRefusal p r
+turnBy s p Nothing = record { next = player p Nothing; text = [] }
+
+-- one step
+unfoldable pub turn : List ℕ → Player → Turn
+turn s p = turnBy s (p .panel) (p .rest)
+
+-- what a step of the code does: the player after it, and the line at the start of the lent buffer l, which then is m
+pub record Does (t : Turn) (l : List ℕ) (r : Stepped) (m : List ℕ) : Type 0 where
+  pub player : r .player ≡ t .next
+  pub put : Put l 0 (t .text) (r .len) m
+  pub fits : r .len ≤ 64
+
+-- the lines of n steps, joined
+unfoldable pub lines : ℕ → List ℕ → Player → List ℕ
+lines zero s p = []
+lines (suc n) s p = turn s p .text ++ lines n s (turn s p .next)
+
+-- the player after n steps
+unfoldable pub after : ℕ → List ℕ → Player → Player
+after zero s p = p
+after (suc n) s p = after n s (turn s p .next)

@@ -1,0 +1,202 @@
+// The player of scores: one field a step, and the whole listing in a lent buffer.
+use panel::Panel;
+use refusals::Refused;
+use score::Checked;
+use score::Field;
+use score::FieldRead;
+ghost use mathlib.Core.Path.{_≡_};
+ghost use Prim.Native.Nat.{_≤_};
+ghost use lib.ListN.{length};
+ghost use Rattle.listing.specs.Text.{Put};
+ghost use Rattle.player.specs.Into.{intoAnswer, intoBuffer};
+ghost use Rattle.player.specs.Listing.{listing as Listing·listing};
+ghost use Rattle.player.specs.Steps.{startOf, isNothing, onField, onRefusal, turn, Does};
+
+// What a player has still to do: the fields from a place on, or to tell a refusal.
+pub enum Rest {
+    Fields { at: usize },
+    Refusal(Refused),
+    Nothing,
+}
+
+impl Rest {
+    pub fn is_nothing(self) -> bool
+        ensures { λ r. ⌜ r ≡ isNothing self ⌝ }
+    {
+        match self {
+            Rest::Fields { at: _ } => false,
+            Rest::Refusal(_) => false,
+            Rest::Nothing => true,
+        }
+    }
+}
+
+pub struct Player {
+    pub panel: Panel,
+    pub rest: Rest,
+}
+
+// The player after a step, and the length of its line.
+pub struct Stepped {
+    pub player: Player,
+    pub len: usize,
+}
+
+fn refuse(panel: Panel, r: Refused, line: &mut [u8; 64]) -> Stepped
+    ensures { λ s. ⌜ Does (onRefusal panel r) (now (line .entry)) s (now (line .exit)) ⌝ }
+{
+    let len = listing::refused_line(line, r);
+    let rest = Rest::Nothing;
+    let player = Player { panel, rest };
+    Stepped { player, len }
+}
+
+fn play_field(panel: Panel, f: Field, next: usize, line: &mut [u8; 64]) -> Stepped
+    ensures { λ r. ⌜ Does (onField panel f next) (now (line .entry)) r (now (line .exit)) ⌝ }
+{
+    let there = panel.run_to(f.stamp());
+    match f {
+        Field::Write {
+            stamp: _,
+            address,
+            value,
+        } => {
+            let panel = there.write(address, value);
+            let rest = Rest::Fields { at: next };
+            let player = Player { panel, rest };
+            return Stepped { player, len: 0 };
+        }
+        Field::Read { stamp, address } => {
+            let read = there.read(address);
+            let len = listing::read_line(line, stamp, address, read.byte);
+            let panel = read.panel;
+            let rest = Rest::Fields { at: next };
+            let player = Player { panel, rest };
+            return Stepped { player, len };
+        }
+        Field::Levels { stamp } => {
+            let display = there.levels();
+            let voice_0 = display.voice_0;
+            let voice_1 = display.voice_1;
+            let voice_2 = display.voice_2;
+            let len = listing::levels_line(line, stamp, voice_0, voice_1, voice_2);
+            let rest = Rest::Fields { at: next };
+            let player = Player { panel: there, rest };
+            return Stepped { player, len };
+        }
+        Field::End { stamp: _ } => {
+            let len = listing::end_line(line, there.clock);
+            let rest = Rest::Nothing;
+            let player = Player { panel: there, rest };
+            return Stepped { player, len };
+        }
+    }
+}
+
+impl Player {
+    // The whole score is checked here, before the first clock.
+    pub fn start(s: &[u8]) -> Player
+        ensures { λ r. ⌜ r ≡ startOf (now (s .entry)) ⌝ }
+    {
+        let panel = Panel::new();
+        match score::check_score(s) {
+            Checked::Accepted { clocks: _ } => {
+                let rest = Rest::Fields { at: 0 };
+                Player { panel, rest }
+            }
+            Checked::Refused(r) => {
+                let rest = Rest::Refusal(r);
+                Player { panel, rest }
+            }
+        }
+    }
+
+    pub fn step(self, s: &[u8], line: &mut [u8; 64]) -> Stepped
+        ensures { λ r. ⌜ Does (turn (now (s .entry)) self) (now (line .entry)) r (now (line .exit)) ⌝ }
+    {
+        let panel = self.panel;
+        let rest = self.rest;
+        match rest {
+            Rest::Nothing => {
+                return Stepped {
+                    player: self,
+                    len: 0,
+                };
+            }
+            Rest::Refusal(r) => {
+                return refuse(panel, r, line);
+            }
+            Rest::Fields { at } => match reader::read_field(s, at) {
+                FieldRead::Refused(r) => {
+                    return refuse(panel, r, line);
+                }
+                FieldRead::Got(f, next) => {
+                    return play_field(panel, f, next, line);
+                }
+            },
+        }
+    }
+}
+
+// A score has fewer fields than bytes, and one of more than 65,536 bytes is refused in one step.
+const STEPS: u32 = 65537;
+
+pub fn listing_len(s: &[u8]) -> usize
+    ensures { λ r. ⌜ r ≡ length (Listing·listing (now (s .entry))) ⌝ }
+{
+    let mut p = Player::start(s);
+    let mut line = [0u8; 64];
+    let mut total: usize = 0;
+    let mut left: u32 = STEPS;
+    while 0 < left {
+        let rest = p.rest;
+        if rest.is_nothing() {
+            return total;
+        }
+        let next = p.step(s, &mut line);
+        total = total + next.len;
+        p = next.player;
+        left = left - 1;
+    }
+    total
+}
+
+fn write_listing(s: &[u8], out: &mut [u8]) -> usize
+    requires { ⌜ length (Listing·listing (now s)) ≤ length (now out) ⌝ }
+    ensures { λ r. ⌜ Put (now (out .entry)) 0 (Listing·listing (now (s .entry))) r (now (out .exit)) ⌝ }
+{
+    let mut p = Player::start(s);
+    let mut line = [0u8; 64];
+    let mut at: usize = 0;
+    let mut left: u32 = STEPS;
+    while 0 < left {
+        let rest = p.rest;
+        if rest.is_nothing() {
+            return at;
+        }
+        let next = p.step(s, &mut line);
+        let len = next.len;
+        listing::copy_into(out, at, &line[..len]);
+        at = at + len;
+        p = next.player;
+        left = left - 1;
+    }
+    at
+}
+
+pub enum Listed {
+    Written(usize),
+    NoRoom,
+}
+
+// A score's listing at the start of a lent buffer; or the buffer as it was, where the listing is longer.
+pub fn listing_into(s: &[u8], out: &mut [u8]) -> Listed
+    ensures { λ r. ⌜ (r ≡ intoAnswer (now (s .entry)) (length (now (out .entry)))) × (now (out .exit) ≡ intoBuffer (now (s .entry)) (now (out .entry))) ⌝ }
+{
+    let total = listing_len(s);
+    if out.len() < total {
+        return Listed::NoRoom;
+    }
+    let len = write_listing(s, out);
+    Listed::Written(len)
+}
