@@ -1,6 +1,6 @@
 SCORE = scores/first_light
 
-.PHONY: play test scores lists bench
+.PHONY: play test scores lists compare bench
 
 # A score's listing: make play, or make play SCORE=file.
 play:
@@ -21,8 +21,17 @@ lists:
 	tools/oracle/target/release/oracle list envelope > crates/envelope_cases/data/envelope
 	tools/oracle/target/release/oracle list oscillator_calls > crates/oscillator_cases/data/calls
 	tools/oracle/target/release/oracle list oscillator_states > crates/oscillator_cases/data/states
+	tools/oracle/target/release/oracle list replay_scores > crates/replay_cases/data/scores
+	tools/oracle/target/release/oracle list replay_listings > crates/replay_cases/stdout
+	tools/oracle/target/release/oracle list sid > crates/sid_cases/stdin
 	tools/oracle/target/release/oracle list waveforms > crates/waveforms_cases/data/waveforms
 	tools/oracle/target/release/oracle list settling > crates/waveforms_cases/data/settling
+
+# Not in the gate: the programs against the original at length, by the seed. Needs their programs in target/bin (make test).
+compare:
+	cd tools/oracle && cargo build --release
+	tools/oracle/target/release/oracle compare-calls target/bin/sid_cases 1 1000 100000
+	tools/oracle/target/release/oracle compare-scores target/bin/replay 1 5000
 
 # This chip against the original, scene by scene (docs/PERFORMANCE.md). Needs cargo, and the original as for the lists.
 bench:

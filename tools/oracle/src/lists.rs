@@ -3,19 +3,24 @@
 mod bus;
 mod envelope;
 mod oscillator;
+mod replay;
 mod settling;
+mod sid;
 mod waveforms;
 
 use std::ffi::OsStr;
 
 type List = fn() -> Vec<u8>;
 
-const LISTS: [(&str, List); 6] = [
+const LISTS: [(&str, List); 9] = [
     ("bus", bus::list),
     ("envelope", envelope::list),
     ("oscillator_calls", oscillator::calls),
     ("oscillator_states", oscillator::states),
+    ("replay_listings", replay::listings),
+    ("replay_scores", replay::scores),
     ("settling", settling::list),
+    ("sid", sid::list),
     ("waveforms", waveforms::list),
 ];
 

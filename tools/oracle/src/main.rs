@@ -1,37 +1,82 @@
-//! Writes fixed lists of the original's answers, for the proved programs to replay.
+//! Writes fixed lists of the original's answers, for the proved programs to replay, and compares
+//! those programs with the original at length.
 
+mod aim;
+mod calls;
+mod compare;
+mod compose;
 mod lists;
 mod random;
+mod score;
 // The lists call only parts of the original.
 #[allow(dead_code)]
 mod sid;
 
 use std::env;
-use std::ffi::OsString;
-use std::io::{self, Write};
+use std::ffi::{OsStr, OsString};
+use std::io::{self, Read, Write};
 use std::process::ExitCode;
+
+use calls::Recorder;
+use sid::sid::Mos6581;
 
 fn main() -> ExitCode {
     let arguments: Vec<OsString> = env::args_os().skip(1).collect();
-    let list = match arguments.as_slice() {
-        [command, name] if command == "list" => lists::named(name),
-        _ => None,
-    };
-    let Some(list) = list else {
+    let arguments: Vec<&OsStr> = arguments.iter().map(OsString::as_os_str).collect();
+    let Some(done) = obey(&arguments) else {
         eprintln!("usage: oracle list NAME, where NAME is {}", lists::names());
+        eprintln!("       oracle compare-calls SID_CASES FIRST_SEED SEEDS TICKS");
+        eprintln!("       oracle compare-scores REPLAY FIRST_SEED SCORES");
+        eprintln!("       oracle calls SEED TICKS");
+        eprintln!("       oracle score SEED");
+        eprintln!("       oracle listing < SCORE");
         return ExitCode::from(2);
     };
-    match write(&list()) {
-        Ok(()) => ExitCode::SUCCESS,
+    match done {
+        Ok(true) => ExitCode::SUCCESS,
+        Ok(false) => ExitCode::FAILURE,
         Err(error) => {
-            eprintln!("oracle: cannot write the list: {error}");
+            eprintln!("oracle: {error}");
             ExitCode::FAILURE
         }
     }
 }
 
-fn write(bytes: &[u8]) -> io::Result<()> {
+/// Whether all was alike and could be read and written; `None` for words that are no command.
+fn obey(arguments: &[&OsStr]) -> Option<io::Result<bool>> {
+    let (command, operands) = arguments.split_first()?;
+    Some(match (command.to_str()?, operands) {
+        ("list", &[name]) => write(&lists::named(name)?()),
+        ("compare-calls", &[program, first, seeds, ticks]) => {
+            compare::calls(program, number(first)?, number(seeds)?, number(ticks)?)
+        }
+        ("compare-scores", &[program, first, count]) => {
+            compare::scores(program, number(first)?, number(count)?)
+        }
+        ("calls", &[seed, ticks]) => {
+            let mut recorder = Recorder::new();
+            aim::calls(&mut recorder, number(seed)?, number(ticks)?);
+            write(&recorder.records)
+        }
+        ("score", &[seed]) => write(&compose::generated(number(seed)?, &mut Mos6581::new())),
+        ("listing", &[]) => print_listing(),
+        _ => return None,
+    })
+}
+
+fn number(word: &OsStr) -> Option<u64> {
+    word.to_str()?.parse().ok()
+}
+
+fn print_listing() -> io::Result<bool> {
+    let mut score = Vec::new();
+    io::stdin().read_to_end(&mut score)?;
+    write(score::listing(&score, &mut Mos6581::new()).as_bytes())
+}
+
+fn write(bytes: &[u8]) -> io::Result<bool> {
     let mut output = io::stdout();
     output.write_all(bytes)?;
-    output.flush()
+    output.flush()?;
+    Ok(true)
 }

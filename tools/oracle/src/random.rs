@@ -29,4 +29,8 @@ impl Random {
     pub fn below(&mut self, bound: u32) -> u32 {
         self.word() % bound
     }
+
+    pub fn pick<T: Copy>(&mut self, from: &[T]) -> T {
+        from[self.below(from.len() as u32) as usize]
+    }
 }

@@ -27,8 +27,11 @@ pub mod waveforms {
     include!("observe/waveforms.rs");
 }
 
-mod sid {
+// The original's own name for it.
+#[allow(clippy::module_inception)]
+pub mod sid {
     include!(concat!(env!("SID_SOURCE"), "/sid.rs"));
+    include!("observe/sid.rs");
 }
 
 mod dac {

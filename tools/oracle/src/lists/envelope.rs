@@ -183,12 +183,12 @@ fn any_state(random: &mut Random) -> State {
     let rate_phase = match random.below(4) {
         0 => rate_target_phase,
         1 => rate_target_phase.wrapping_sub(1),
-        2 => pick(random, &[0, 32_765, 32_766, 32_767, 65_534, 65_535]),
+        2 => random.pick(&[0, 32_765, 32_766, 32_767, 65_534, 65_535]),
         _ => random.word() as u16,
     };
     let curve_divisor = match random.below(4) {
         0 => random.byte(),
-        _ => pick(random, &[1, 1, 2, 4, 8, 16, 30]),
+        _ => random.pick(&[1, 1, 2, 4, 8, 16, 30]),
     };
     let curve_count = match random.below(4) {
         0 => random.byte(),
@@ -197,12 +197,9 @@ fn any_state(random: &mut Random) -> State {
     };
     let volume = match random.below(4) {
         0 => random.byte(),
-        _ => pick(
-            random,
-            &[
-                0x00, 0x01, 0x06, 0x07, 0x0e, 0x0f, 0x1a, 0x1b, 0x35, 0x37, 0x5c, 0x5e, 0xfe, 0xff,
-            ],
-        ),
+        _ => random.pick(&[
+            0x00, 0x01, 0x06, 0x07, 0x0e, 0x0f, 0x1a, 0x1b, 0x35, 0x37, 0x5c, 0x5e, 0xfe, 0xff,
+        ]),
     };
     let hold_level = match random.below(3) {
         0 => volume,
@@ -238,11 +235,7 @@ fn any_state(random: &mut Random) -> State {
 }
 
 fn any_delay(random: &mut Random) -> u8 {
-    pick(random, &[0, 0, 1, 1, 1, 2, 2, 3, 255])
-}
-
-fn pick<T: Copy>(random: &mut Random, from: &[T]) -> T {
-    from[random.below(from.len() as u32) as usize]
+    random.pick(&[0, 0, 1, 1, 1, 2, 2, 3, 255])
 }
 
 /// A state that calls make: nothing is under way but the rate counter, all rates are 0.

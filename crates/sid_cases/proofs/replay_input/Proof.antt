@@ -1,0 +1,31 @@
+use borrow.Author.Needs.{needs}
+use mathlib.Core.Path.{_≡_}
+use lib.ListN.{length}
+use Rattle.sid_cases.proofs.replay_input.Statement.{statement}
+use Rattle.sid_cases.proofs.replay_input.Tie as tie
+
+abbrev Inv-loop : tie.InvT-loop
+Inv-loop list₀ chip₀ tally₀ parts₀ list chip tally parts = length list ≡ 65536
+
+abbrev μ-loop : tie.MeasureT-loop
+μ-loop list₀ chip₀ tally₀ parts₀ list chip tally parts = parts
+
+pub replay-input-spec : {M : Type 1} → statement M
+replay-input-spec =
+    tie.close
+    (tie.spec
+    Inv-loop
+    μ-loop
+    (λ c κs. search needs)
+    (λ c κs. search needs)
+    (λ c. search needs)
+    (λ c. search needs)
+    (λ c κs. search needs)
+    (λ c. search needs)
+    (λ c. search needs)
+    (λ c. search needs)
+    (λ c κs. search needs)
+    (λ c. search needs)
+    (λ c. search needs)
+    (λ c. search needs)
+    (λ c. search needs))

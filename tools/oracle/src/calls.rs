@@ -1,0 +1,221 @@
+//! Calls on the whole chip, and records of what they answer.
+//!
+//! A record has 16 bytes, little endian: the call's number (its place in `Call`, from 0), a value
+//! (u8), an address (u16), a number of clocks (u32) and the answer (u64). What a call does not
+//! have is 0.
+//!
+//! The outputs are one word: codes from bit 0, 12 and 24 on, levels from bit 36, 44 and 52 on.
+//! `Tick` answers with a digest of the outputs after each clock; `Watch` reads after each clock,
+//! and its digest has that byte, too; `Run` answers with the outputs after its last clock. `Code`,
+//! `Level` and `Held` answer for a voice, or give the refusal's number from bit 32 on and its place.
+
+use crate::sid::sid::Mos6581;
+
+use Call::{
+    Code, Held, Level, New, Read, Reset, Run, SetPotX, SetPotY, Tick, Watch, Write as WriteCall,
+};
+
+pub const RECORD_BYTES: usize = 16;
+
+/// The number of a voice above 2 is refused (document 01, number 3 at place 0).
+const NO_SUCH_VOICE: u64 = 3 << 32;
+
+#[derive(Clone, Copy)]
+pub enum Call {
+    New,
+    Reset,
+    Write(u16, u8),
+    Read(u16),
+    SetPotX(u8),
+    SetPotY(u8),
+    /// So many clocks.
+    Tick(u32),
+    /// A read of the address after each of so many clocks.
+    Watch(u16, u32),
+    /// So many clocks by the port's `run`.
+    Run(u32),
+    Code(u8),
+    Level(u8),
+    Held(u8),
+}
+
+/// How clocks are made until something comes up.
+#[derive(Clone, Copy)]
+pub enum Pace {
+    Tick,
+    Watch(u16),
+    Run,
+}
+
+pub struct Recorder {
+    pub chip: Mos6581,
+    pub records: Vec<u8>,
+    /// Clocks whose outputs are each in a digest.
+    pub ticked: u64,
+    /// Clocks of runs, whose outputs are recorded after the last.
+    pub run: u64,
+    clock_by_clock: bool,
+}
+
+impl Recorder {
+    pub fn new() -> Self {
+        Self {
+            chip: Mos6581::new(),
+            records: Vec::new(),
+            ticked: 0,
+            run: 0,
+            clock_by_clock: false,
+        }
+    }
+
+    /// As at first; with `clock_by_clock` a record for each clock, to find one that differs.
+    pub fn restart(&mut self, clock_by_clock: bool) {
+        self.chip.renew();
+        self.records.clear();
+        self.ticked = 0;
+        self.run = 0;
+        self.clock_by_clock = clock_by_clock;
+    }
+
+    pub fn make(&mut self, calls: &[Call]) {
+        for &call in calls {
+            self.make_one(call);
+        }
+    }
+
+    fn make_one(&mut self, call: Call) {
+        let chip = &mut self.chip;
+        let (value, address, answer) = match call {
+            New => {
+                chip.renew();
+                (0, 0, 0)
+            }
+            Reset => {
+                chip.reset();
+                (0, 0, 0)
+            }
+            WriteCall(address, value) => {
+                chip.write(address, value);
+                (value, address, 0)
+            }
+            Read(address) => (0, address, chip.read(address).into()),
+            SetPotX(value) => {
+                chip.pot_x = value;
+                (value, 0, 0)
+            }
+            SetPotY(value) => {
+                chip.pot_y = value;
+                (value, 0, 0)
+            }
+            Tick(clocks) => return self.clock_until(Pace::Tick, clocks, |_| false),
+            Watch(address, clocks) => {
+                return self.clock_until(Pace::Watch(address), clocks, |_| false)
+            }
+            Run(clocks) => return self.clock_until(Pace::Run, clocks, |_| false),
+            Code(voice) => (
+                voice,
+                0,
+                of_voice(voice, |v| chip.oscillators[v].last_sample.into()),
+            ),
+            Level(voice) => (
+                voice,
+                0,
+                of_voice(voice, |v| chip.envelopes[v].volume.into()),
+            ),
+            Held(voice) => (
+                voice,
+                0,
+                of_voice(voice, |v| chip.envelopes[v].state().floor_hold.into()),
+            ),
+        };
+        self.record(call, value, address, 0, answer);
+    }
+
+    pub fn clocks(&self) -> u64 {
+        self.ticked + self.run
+    }
+
+    /// Clocks until the chip is as wanted, `most` at the most.
+    pub fn clock_until(&mut self, pace: Pace, most: u32, wanted: impl Fn(&Mos6581) -> bool) {
+        let step = if self.clock_by_clock { 1 } else { most };
+        let mut left = most;
+        loop {
+            let clocks = self.clock_record(pace, left.min(step), &wanted);
+            left -= clocks;
+            if clocks < step || left == 0 {
+                return;
+            }
+        }
+    }
+
+    /// One record; gives its clocks.
+    fn clock_record(&mut self, pace: Pace, most: u32, wanted: impl Fn(&Mos6581) -> bool) -> u32 {
+        let mut digest = 1;
+        let mut clocks = 0;
+        while clocks < most && !wanted(&self.chip) {
+            self.chip.tick();
+            digest = mixed(digest, outputs(&self.chip));
+            if let Pace::Watch(address) = pace {
+                digest = mixed(digest, self.chip.read(address).into());
+            }
+            clocks += 1;
+        }
+        match pace {
+            Pace::Run => self.run += u64::from(clocks),
+            Pace::Tick | Pace::Watch(_) => self.ticked += u64::from(clocks),
+        }
+        match pace {
+            Pace::Tick => self.record(Tick(0), 0, 0, clocks, digest),
+            Pace::Watch(address) => self.record(Watch(0, 0), 0, address, clocks, digest),
+            Pace::Run => self.record(Run(0), 0, 0, clocks, outputs(&self.chip)),
+        }
+        clocks
+    }
+
+    fn record(&mut self, call: Call, value: u8, address: u16, clocks: u32, answer: u64) {
+        self.records.extend([number(call), value]);
+        self.records.extend(address.to_le_bytes());
+        self.records.extend(clocks.to_le_bytes());
+        self.records.extend(answer.to_le_bytes());
+    }
+}
+
+fn number(call: Call) -> u8 {
+    match call {
+        New => 0,
+        Reset => 1,
+        WriteCall(..) => 2,
+        Read(..) => 3,
+        SetPotX(..) => 4,
+        SetPotY(..) => 5,
+        Tick(..) => 6,
+        Watch(..) => 7,
+        Run(..) => 8,
+        Code(..) => 9,
+        Level(..) => 10,
+        Held(..) => 11,
+    }
+}
+
+fn of_voice(voice: u8, answer: impl Fn(usize) -> u64) -> u64 {
+    if voice > 2 {
+        return NO_SUCH_VOICE;
+    }
+    answer(voice.into())
+}
+
+fn outputs(chip: &Mos6581) -> u64 {
+    let mut word = 0;
+    for voice in 0..3 {
+        word |= u64::from(chip.oscillators[voice].last_sample) << (12 * voice);
+        word |= u64::from(chip.envelopes[voice].volume) << (36 + 8 * voice);
+    }
+    word
+}
+
+/// Two fields never give one digest the same next, nor does one field two digests.
+fn mixed(digest: u64, field: u64) -> u64 {
+    let sum = digest.wrapping_add(field);
+    let spread = sum.wrapping_add(sum << 10);
+    spread ^ (spread >> 6)
+}

@@ -1,0 +1,16 @@
+/// Beside the original chip: its bus, and the chip made new without its tables, which never change.
+impl Mos6581 {
+    pub fn bus(&self) -> &InternalDataBus {
+        &self.data_bus
+    }
+
+    pub fn renew(&mut self) {
+        self.oscillators = std::array::from_fn(|_| Oscillator::new());
+        self.envelopes = std::array::from_fn(|_| Envelope::new());
+        self.filter = Filter::new();
+        self.data_bus = InternalDataBus::new();
+        self.last_sample = 0;
+        self.pot_x = 0xff;
+        self.pot_y = 0xff;
+    }
+}

@@ -1,0 +1,177 @@
+//! Scores as document 01 has them ('Score and program', 'Numbers a caller can get back'): fields,
+//! the check before the first clock, and the listing, played on the original.
+
+use std::fmt::Write as _;
+
+use crate::sid::sid::Mos6581;
+
+pub const MOST_BYTES: usize = 65_536;
+pub const LATEST_STAMP: u32 = 100_000_000;
+
+pub const HEADER_BYTES: usize = 3;
+pub const STAMP_BYTES: usize = 4;
+
+#[derive(Clone, Copy)]
+pub enum Event {
+    Write { address: u8, value: u8 },
+    Read { address: u8 },
+    Levels,
+    End,
+}
+
+#[derive(Clone, Copy)]
+pub struct Field {
+    pub stamp: u32,
+    pub event: Event,
+}
+
+pub struct Refused {
+    number: u8,
+    place: usize,
+}
+
+impl Event {
+    fn tag(self) -> u8 {
+        match self {
+            Event::Write { .. } => 0x01,
+            Event::Read { .. } => 0x02,
+            Event::Levels => 0x03,
+            Event::End => 0x7f,
+        }
+    }
+
+    /// What follows the stamp.
+    fn operands(self) -> Vec<u8> {
+        match self {
+            Event::Write { address, value } => vec![address, value],
+            Event::Read { address } => vec![address],
+            Event::Levels | Event::End => vec![],
+        }
+    }
+}
+
+impl Field {
+    pub fn bytes(self) -> Vec<u8> {
+        let operands = self.event.operands();
+        let length = (STAMP_BYTES + operands.len()) as u16;
+        let mut bytes = vec![self.event.tag()];
+        bytes.extend(length.to_le_bytes());
+        bytes.extend(self.stamp.to_le_bytes());
+        bytes.extend(operands);
+        bytes
+    }
+}
+
+pub fn bytes_of(fields: &[Field]) -> Vec<u8> {
+    fields.iter().flat_map(|field| field.bytes()).collect()
+}
+
+/// The fields of a score, or why it is refused.
+pub fn check(score: &[u8]) -> Result<Vec<Field>, Refused> {
+    if score.len() > MOST_BYTES {
+        return Err(Refused {
+            number: 4,
+            place: 0,
+        });
+    }
+    let mut fields: Vec<Field> = Vec::new();
+    let mut place = 0;
+    while place < score.len() {
+        let refused = |number| Err(Refused { number, place });
+        let &[tag, length_low, length_high, ref rest @ ..] = &score[place..] else {
+            return refused(5);
+        };
+        let due = match tag {
+            0x01 => 6,
+            0x02 => 5,
+            0x03 | 0x7f => 4,
+            _ => return refused(6),
+        };
+        let length = usize::from(u16::from_le_bytes([length_low, length_high]));
+        if length != due {
+            return refused(7);
+        }
+        let Some(value) = rest.get(..length) else {
+            return refused(5);
+        };
+        let stamp = u32::from_le_bytes([value[0], value[1], value[2], value[3]]);
+        if stamp > LATEST_STAMP {
+            return refused(8);
+        }
+        if fields.last().is_some_and(|before| stamp < before.stamp) {
+            return refused(9);
+        }
+        let event = match tag {
+            0x01 => Event::Write {
+                address: value[4],
+                value: value[5],
+            },
+            0x02 => Event::Read { address: value[4] },
+            0x03 => Event::Levels,
+            _ => Event::End,
+        };
+        fields.push(Field { stamp, event });
+        place += HEADER_BYTES + length;
+        if tag == 0x7f {
+            if place < score.len() {
+                return Err(Refused { number: 10, place });
+            }
+            return Ok(fields);
+        }
+    }
+    Err(Refused {
+        number: 11,
+        place: score.len(),
+    })
+}
+
+/// The clocks of a score that is played; 0 for one that is refused.
+pub fn clocks(score: &[u8]) -> u64 {
+    let fields = check(score).unwrap_or_default();
+    fields.last().map_or(0, |end| end.stamp.into())
+}
+
+/// What `replay` must print. The chip is used, whatever state it is in, and left in some other.
+pub fn listing(score: &[u8], chip: &mut Mos6581) -> String {
+    match check(score) {
+        Ok(fields) => play(&fields, chip),
+        Err(Refused { number, place }) => format!("refused {number} at {place}\n"),
+    }
+}
+
+fn play(fields: &[Field], chip: &mut Mos6581) -> String {
+    let mut lines = String::new();
+    let mut clocks = 0;
+    chip.renew();
+    for &Field { stamp, event } in fields {
+        while clocks < stamp {
+            chip.tick();
+            clocks += 1;
+        }
+        match event {
+            Event::Write { address, value } => chip.write(address.into(), value),
+            Event::Read { address } => {
+                let read = chip.read(address.into());
+                put(
+                    &mut lines,
+                    format_args!("R {stamp} {address:02x} {read:02x}\n"),
+                );
+            }
+            Event::Levels => {
+                put(&mut lines, format_args!("L {stamp}"));
+                for voice in 0..3 {
+                    let code = chip.oscillators[voice].last_sample;
+                    let level = chip.envelopes[voice].volume;
+                    put(&mut lines, format_args!(" {code:03x} {level:02x}"));
+                }
+                lines.push('\n');
+            }
+            Event::End => put(&mut lines, format_args!("E {clocks}\n")),
+        }
+    }
+    lines
+}
+
+fn put(lines: &mut String, text: std::fmt::Arguments) {
+    lines.write_fmt(text).expect("a string takes any text");
+}
