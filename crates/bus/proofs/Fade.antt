@@ -75,10 +75,3 @@ fading v (suc n) h = rw add-one at (fading-step v n (clocks n (driven v)) (fadin
 -- THE LAW
 pub byte-fades : (v n : ℕ) → v < 256 → clocks n (driven v) .value ≡ kept holds v n
 byte-fades v n h = fading v n h .byte
-
--- the starred cases: 0xff has bit 0 at 11 clocks and lacks it at 12; 0x80 is there at 43007 and gone at 43008
-pub edges
-    : (clocks 11 (driven 0xff) .value ≡ 0xff) × (clocks 12 (driven 0xff) .value ≡ 0xfe)
-    × (clocks 43007 (driven 0x80) .value ≡ 0x80) × (clocks 43008 (driven 0x80) .value ≡ 0)
-unfolding kept holds
-edges = (byte-fades 0xff 11 (omega arith), byte-fades 0xff 12 (omega arith), byte-fades 0x80 43007 (omega arith), byte-fades 0x80 43008 (omega arith))

@@ -9,13 +9,8 @@ use lib.Bits.{bitOr, bitXor, xor-lt, or-shr, or-zero-l}
 use lib.Dec.{eqb}
 use lib.Pow.{shl-shr, field}
 use Rattle.laws.specs.Cycle.{never, after}
-use Rattle.noise.specs.Noise.{shownTo, fresh, captures, captureNumbers, clocked, come, feedback, shiftedState, shiftedNumbers, transferred, stepped}
+use Rattle.noise.specs.Noise.{captures, captureNumbers, clocked, come, feedback, shiftedState, shiftedNumbers, transferred, stepped}
 use Rattle.noise.specs.declared.NoiseGenerator.{NoiseGenerator}
-
--- the starred case: 'Fresh noise shows 0xfe0'
-pub edges : fresh .numbers .visible ≡ 0xfe0
-unfolding fresh shownTo
-edges = refl
 
 -- stage 22 of a shift of 23 stages is the feedback
 pub feedback-enters : (stages : ℕ) → stages < 2 ^ 23 → shiftedState stages / 2 ^ 22 ≡ bitXor (stages % 2) (stages / 2 ^ 5 % 2)

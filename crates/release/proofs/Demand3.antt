@@ -7,8 +7,7 @@ use mathlib.Core.Path.{_≡_, refl, ap, sym, _∙_}
 use mathlib.Core.Bool.{false}
 use Rattle.envelope.specs.declared.Envelope.{Envelope}
 use Rattle.envelope.specs.Envelope.{clocks}
-use Rattle.release.specs.Release.{Settled, steps, divisorAfter, asked, matches, wait, lag, stepClock, landing, Needs, Demand3}
-use Rattle.release.specs.Cases.{ZeroFrom}
+use Rattle.release.specs.Release.{Settled, steps, divisorAfter, asked, matches, wait, lag, stepClock, landing, Needs, Demand3, ZeroFrom}
 use Rattle.release.proofs.Steps.{steps-closed, level-closed, divisor-le, divisor-range, lag-range, asked-first}
 use Rattle.release.proofs.Release.{settled-release}
 

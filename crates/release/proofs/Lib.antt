@@ -1,4 +1,3 @@
-pub mod Cases
 pub mod Clocks
 pub mod Demand3
 pub mod Keeps

@@ -10,8 +10,7 @@ use Rattle.envelope.specs.declared.Envelope.{Envelope}
 use Rattle.envelope.specs.Sets.{setReadback, setRatePhase, setMatchedRate}
 use Rattle.envelope.specs.Envelope.{clocked, phaseUp, rateClocked, quiescent}
 use Rattle.envelope.proofs.Quiet.{quiet, quiet-clock}
-use Rattle.release.specs.Release.{wait}
-use Rattle.release.specs.Cases.{FirstMatch}
+use Rattle.release.specs.Release.{wait, FirstMatch}
 use Rattle.release.proofs.Keeps.{Keeps, one, join, long}
 
 pub phase-up : (p : ℕ) → p < 32767 → phaseUp p ≡ (p + 1) % 32767

@@ -118,3 +118,13 @@ pub record Demand3 (e : Envelope) (p P : ℕ) : Type 0 where
   pub ends
       : (k S D n : ℕ) → Needs e k S D → suc k ≡ steps (e .volume) → landing p P S D ≤ n
       → (clocks n e .volume ≡ 0) × (clocks n e .«floor_hold» ≡ true)
+
+-- the first match is set on clock n
+abbrev pub FirstMatch : Envelope → ℕ → Type 0
+FirstMatch e n = (clocks n e .«matched_rate» ≡ true) × ((m : ℕ) → m < n → clocks m e .«matched_rate» ≡ false)
+
+-- the level comes to zero on clock n, and is held from then on
+abbrev pub ZeroFrom : Envelope → ℕ → Type 0
+ZeroFrom e n =
+    ((m : ℕ) → m < n → (clocks m e .volume ≡ 0 → ⊥) × (clocks m e .«floor_hold» ≡ false))
+    × ((m : ℕ) → n ≤ m → At 0 true (clocks m e))

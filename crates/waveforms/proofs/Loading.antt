@@ -18,7 +18,7 @@ use Rattle.laws.specs.Times.{times}
 use Rattle.laws.proofs.Build.{build-at}
 use Rattle.laws.proofs.Table.{at-or}
 use Rattle.waveforms.specs.Constants.{0·0, retentionThresholds, loadingScales, bySelection}
-use Rattle.waveforms.specs.Waveforms.{triangle, interactionScale, chargeAt, discharge, drained, pass, retained, code, arrayOf, settledBy, settled, needsLoading, loaded}
+use Rattle.waveforms.specs.Waveforms.{interactionScale, chargeAt, discharge, drained, pass, retained, code, arrayOf, settledBy, settled, needsLoading, loaded}
 use Rattle.waveforms.proofs.Sums.{code-lt}
 
 -- ---- every threshold is above 0.0
@@ -161,10 +161,3 @@ loaded-lacks s v b e = loaded-either (λ c. c / 2 ^ b % 2 ≡ 0) s v (settled-la
 
 pub loaded-zero : (s : ℕ) → loaded s 0 ≡ 0
 loaded-zero s = loaded-either (λ c. c ≡ 0) s 0 (settled-zero s) refl
-
--- the starred cases: triangle of 0x7ff and of 0x800 is 0xffe, of 0xfff 0; settled 0 is 0 for every selection, in a table and in the tick
-pub edges
-    : (triangle 0x7ff ≡ 0xffe) × (triangle 0x800 ≡ 0xffe) × (triangle 0xfff ≡ 0)
-    × ((s : ℕ) → settled s 0 ≡ 0) × ((s : ℕ) → loaded s 0 ≡ 0)
-unfolding triangle
-edges = (refl, refl, refl, settled-zero, loaded-zero)

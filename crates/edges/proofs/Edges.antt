@@ -1,15 +1,20 @@
--- The starred cases of the envelope, from the laws. Assumes nothing.
+-- The starred cases, from the laws. Assumes nothing.
 use Prim.Native.Nat.{ℕ, _+_, _-_, _*_, _<_}
 use native.Mathlib.Omega.{arith}
 use mathlib.Core.Path.{_≡_, refl, subst}
 use Rattle.laws.specs.Times.{times}
+use Rattle.bus.specs.Bus.{holds, kept}
+use Rattle.bus.proofs.Fade.{byte-fades}
 use Rattle.envelope.specs.Envelope.{periodOf, divisorFor, down, fresh, targetRefreshed, sustainReleaseSet}
 use Rattle.envelope.proofs.Periods.{period-range, period-zero}
-use Rattle.release.specs.Release.{Settled, steps, inForce, divisorAfter, asked, matches, wait, lag, stepClock}
-use Rattle.release.specs.Cases.{Matching, Releasing, ZeroFrom, Falling, Sustaining, Edges}
+use Rattle.noise.specs.Noise.{shownTo, fresh as Noise·fresh}
+use Rattle.waveforms.specs.Waveforms.{triangle}
+use Rattle.waveforms.proofs.Loading.{settled-zero, loaded-zero}
+use Rattle.release.specs.Release.{Settled, steps, inForce, divisorAfter, asked, matches, wait, lag, stepClock, ZeroFrom}
+use Rattle.edges.specs.Edges.{Matching, Releasing, Falling, Sustaining, Edges}
 use Rattle.release.proofs.Waits.{first-match}
 use Rattle.release.proofs.Stays.{sustain-stays}
 use Rattle.release.proofs.Demand3.{zero-from}
 
 matching : (p : ℕ) → p < 32767 → Matching p 8 (wait 9 p + 1)
 matching p l e q f t = rw (← f) (first-match e q 9 t (omega arith) (omega arith) (omega arith))
@@ -75,15 +80,24 @@ unfolding sustainReleaseSet targetRefreshed
 sustaining s e g h m d v n = sustain-stays (s * 17) n (sustainReleaseSet e (s * 16)) (v, omega arith, g, h, m, d) .0
 
 pub edges : Edges
-unfolding matches steps wait lag fresh
-edges = (
-  matching 9 (omega arith),
-  matching 8 (omega arith),
-  releasing 1,
-  releasing 30,
-  fresh-zero,
-  rw fresh-asked,
-  subst (Falling 0xff 1) top-asked (falling 0xff 1),
-  subst (Falling 0x00 30) zero-asked (falling 0x00 30),
-  sustaining 15,
-)
+unfolding kept holds matches steps wait lag fresh triangle Noise·fresh shownTo
+edges = record {
+  bus-11 = byte-fades 0xff 11 (omega arith);
+  bus-12 = byte-fades 0xff 12 (omega arith);
+  bus-43007 = byte-fades 0x80 43007 (omega arith);
+  bus-43008 = byte-fades 0x80 43008 (omega arith);
+  phase-9 = matching 9 (omega arith);
+  phase-8 = matching 8 (omega arith);
+  release-12 = releasing 1;
+  release-274 = releasing 30;
+  fresh-6043 = fresh-zero;
+  fresh-671 = rw fresh-asked;
+  fall-756 = subst (Falling 0xff 1) top-asked (falling 0xff 1);
+  fall-786 = subst (Falling 0x00 30) zero-asked (falling 0x00 30);
+  triangle-7ff = refl;
+  triangle-800 = refl;
+  triangle-fff = refl;
+  noise-fe0 = refl;
+  settled-0 = λ s. (settled-zero s, loaded-zero s);
+  sustain-f0 = sustaining 15;
+}
