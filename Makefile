@@ -30,8 +30,8 @@ lists:
 # Not in the gate: the programs against the original at length, by the seed. Needs their programs in target/bin (make test).
 compare:
 	cd tools/oracle && cargo build --release
-	tools/oracle/target/release/oracle compare-calls target/bin/sid_cases 1 1000 100000
-	tools/oracle/target/release/oracle compare-scores target/bin/replay 1 5000
+	tools/oracle/target/release/oracle compare-calls target/bin/sid_cases 1000 100000 1
+	tools/oracle/target/release/oracle compare-scores target/bin/replay 5000 1
 
 # This chip against the original, scene by scene (docs/PERFORMANCE.md). Needs cargo, and the original as for the lists.
 bench:

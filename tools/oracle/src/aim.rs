@@ -22,8 +22,8 @@ const LEVELS: [u8; 14] = [
 
 pub type Wanted = Box<dyn Fn(&Mos6581) -> bool>;
 
-/// A fresh chip, and at least so many ticks, with calls aimed at what is under way in it.
-pub fn calls(recorder: &mut Recorder, seed: u64, ticks: u64) {
+/// The calls of a seed, some of which wait long.
+pub fn seeded_calls(recorder: &mut Recorder, seed: u64, ticks: u64) {
     let mut random = Random::seeded(seed);
     let patience = match random.below(32) {
         0 => FLOAT_TO_THE_END,
@@ -31,17 +31,23 @@ pub fn calls(recorder: &mut Recorder, seed: u64, ticks: u64) {
         5..=12 => 12_000,
         _ => 1_500,
     };
+    calls(recorder, &mut random, ticks, patience);
+}
+
+/// A fresh chip, and at least so many ticks, with calls aimed at what is under way in it. No wait
+/// is longer than `patience`.
+pub fn calls(recorder: &mut Recorder, random: &mut Random, ticks: u64, patience: u32) {
     recorder.make(&[Call::New]);
-    set_up(recorder, &mut random);
+    set_up(recorder, random);
     if patience == FLOAT_TO_THE_END {
-        float(recorder, &mut random);
+        float(recorder, random);
     }
     let end = recorder.ticked + ticks;
     while recorder.ticked < end {
         let voice = random.below(3) as usize;
-        wait(recorder, voice, &mut random, patience);
+        wait(recorder, voice, random, patience);
         for _ in 0..=random.below(3) {
-            act(recorder, voice, &mut random);
+            act(recorder, voice, random);
         }
     }
 }
@@ -134,18 +140,20 @@ fn reset(recorder: &mut Recorder, random: &mut Random) {
     set_up(recorder, random);
 }
 
-/// Another selection, or test, for a few clocks, such as those of a shift under way.
+/// Another selection, or test, or both, for a few clocks, such as those of a shift under way; then
+/// the one before, noise alone, or any.
 fn select_briefly(recorder: &mut Recorder, voice: usize, random: &mut Random) {
     let address = 7 * voice as u16 + 4;
     let before = control(&recorder.chip, voice);
-    let after = match random.below(4) {
-        0 => before ^ TEST,
-        _ => before & 0x0f | random.pick(&SELECTIONS) << 4,
-    };
+    let flags = before & 0x07;
+    let mut selected = || random.pick(&SELECTIONS) << 4 | flags;
+    let (one, other) = (selected(), selected());
+    let during = random.pick(&[before ^ TEST, one | TEST, one]);
+    let after = random.pick(&[before, other, 0x80 | flags]);
     recorder.make(&[
-        Call::Write(address, after),
+        Call::Write(address, during),
         Call::Tick(random.pick(&[0, 1, 1, 2, 2, 3, 9, 10, 11])),
-        Call::Write(address, before),
+        Call::Write(address, after),
     ]);
 }
 

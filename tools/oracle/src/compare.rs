@@ -12,21 +12,21 @@ use crate::score;
 use crate::sid::sid::Mos6581;
 
 /// Feeds `sid_cases` the aimed calls of so many seeds, each of so many ticks or more.
-pub fn calls(program: &OsStr, first: u64, seeds: u64, ticks: u64) -> io::Result<bool> {
+pub fn calls(program: &OsStr, seeds: u64, ticks: u64, first: u64) -> io::Result<bool> {
     let mut recorder = Recorder::new();
     let mut records = 0;
     let mut ticked = 0;
     let mut run = 0;
     for seed in first..first + seeds {
         recorder.restart(false);
-        aim::calls(&mut recorder, seed, ticks);
+        aim::seeded_calls(&mut recorder, seed, ticks);
         let count = recorder.records.len() / RECORD_BYTES;
         let due = format!("sid: {count} answers compared, 0 differ\n");
         let said = answer(program, &recorder.records)?;
         if said != due.as_bytes() {
             println!("seed {seed}: {}", String::from_utf8_lossy(&said).trim_end());
             recorder.restart(true);
-            aim::calls(&mut recorder, seed, ticks);
+            aim::seeded_calls(&mut recorder, seed, ticks);
             let said = answer(program, &recorder.records)?;
             println!(
                 "clock by clock: {}",
@@ -44,7 +44,7 @@ pub fn calls(program: &OsStr, first: u64, seeds: u64, ticks: u64) -> io::Result<
 }
 
 /// Feeds `replay` so many scores, of seeds from the first on.
-pub fn scores(program: &OsStr, first: u64, count: u64) -> io::Result<bool> {
+pub fn scores(program: &OsStr, count: u64, first: u64) -> io::Result<bool> {
     let mut chip = Mos6581::new();
     let mut refused = 0;
     let mut clocks = 0;

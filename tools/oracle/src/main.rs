@@ -25,8 +25,8 @@ fn main() -> ExitCode {
     let arguments: Vec<&OsStr> = arguments.iter().map(OsString::as_os_str).collect();
     let Some(done) = obey(&arguments) else {
         eprintln!("usage: oracle list NAME, where NAME is {}", lists::names());
-        eprintln!("       oracle compare-calls SID_CASES FIRST_SEED SEEDS TICKS");
-        eprintln!("       oracle compare-scores REPLAY FIRST_SEED SCORES");
+        eprintln!("       oracle compare-calls SID_CASES SEEDS TICKS FIRST_SEED");
+        eprintln!("       oracle compare-scores REPLAY SCORES FIRST_SEED");
         eprintln!("       oracle calls SEED TICKS");
         eprintln!("       oracle score SEED");
         eprintln!("       oracle listing < SCORE");
@@ -47,15 +47,15 @@ fn obey(arguments: &[&OsStr]) -> Option<io::Result<bool>> {
     let (command, operands) = arguments.split_first()?;
     Some(match (command.to_str()?, operands) {
         ("list", &[name]) => write(&lists::named(name)?()),
-        ("compare-calls", &[program, first, seeds, ticks]) => {
-            compare::calls(program, number(first)?, number(seeds)?, number(ticks)?)
+        ("compare-calls", &[program, seeds, ticks, first]) => {
+            compare::calls(program, number(seeds)?, number(ticks)?, number(first)?)
         }
-        ("compare-scores", &[program, first, count]) => {
-            compare::scores(program, number(first)?, number(count)?)
+        ("compare-scores", &[program, count, first]) => {
+            compare::scores(program, number(count)?, number(first)?)
         }
         ("calls", &[seed, ticks]) => {
             let mut recorder = Recorder::new();
-            aim::calls(&mut recorder, number(seed)?, number(ticks)?);
+            aim::seeded_calls(&mut recorder, number(seed)?, number(ticks)?);
             write(&recorder.records)
         }
         ("score", &[seed]) => write(&compose::generated(number(seed)?, &mut Mos6581::new())),

@@ -10,7 +10,7 @@ use crate::sid::constants::DATA_BUS_HOLD_CYCLES as HOLDS;
 use crate::sid::sid::Mos6581;
 
 const SEED: u64 = 6581 * 29;
-const AIMED_SEEDS: u64 = 16;
+const AIMED_ROUNDS: u32 = 16;
 const AIMED_TICKS: u64 = 5_000;
 
 const FLOAT_WHOLE: u32 = 1_260_019;
@@ -40,8 +40,8 @@ pub fn list() -> Vec<u8> {
     compare_late(&mut recorder);
     reset_in_mid_flight(&mut recorder, &mut random);
     wait_long(&mut recorder, &mut random);
-    for seed in 0..AIMED_SEEDS {
-        aim::calls(&mut recorder, SEED + seed, AIMED_TICKS);
+    for _ in 0..AIMED_ROUNDS {
+        aim::calls(&mut recorder, &mut random, AIMED_TICKS, 1_000);
     }
     recorder.records
 }
@@ -220,7 +220,7 @@ fn raise_and_drop_gates(recorder: &mut Recorder) {
         recorder.make(&[Watch(0x1c, 300)]);
     }
     // Pulses of 0 to 4 clocks, from a level on its way and from a hold.
-    for start in [500, 7_000] {
+    for start in [500, 6_050] {
         for width in 0..5 {
             for phase in 0..9 {
                 recorder.make(&[New, Run(start + phase), control(2, 0x01), Tick(width)]);
