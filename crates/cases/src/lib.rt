@@ -61,7 +61,9 @@ pub fn load(path: &[u8], list: &mut [u8]) -> usize
     n
 }
 
-pub fn report(name: &[u8], t: Tally) {
+pub fn report(name: &[u8], t: Tally)
+    ensures { λ r. ⌜ r ≡ tt ⌝ }
+{
     io::write_all(1, name);
     io::write_all(1, b": ");
     io::print_decimal(1, t.compared as u64);

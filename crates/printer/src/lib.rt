@@ -1,5 +1,6 @@
 // Prints a score's listing through a buffer.
 use player::Player;
+ghost use mathlib.Core.Path.{_≡_};
 ghost use Prim.Native.Nat.{_≤_};
 ghost use lib.ListN.{length};
 ghost use Rattle.printer.specs.Fills.{Fills};
@@ -51,7 +52,9 @@ fn fill(from: Player, s: &[u8], steps: u32, out: &mut [u8]) -> Filled
 }
 
 // 65,537 steps play any score (law `enough-steps` of crate player); a write that fails ends the listing.
-pub fn print_listing(to: i32, s: &[u8]) {
+pub fn print_listing(to: i32, s: &[u8])
+    ensures { λ r. ⌜ r ≡ tt ⌝ }
+{
     let mut out = [0u8; 65536];
     let mut p = Player::start(s);
     let mut left: u32 = 65537;
