@@ -27,7 +27,7 @@ lists:
 	tools/oracle/target/release/oracle list waveforms > crates/waveforms_cases/data/waveforms
 	tools/oracle/target/release/oracle list settling > crates/waveforms_cases/data/settling
 
-# Not in the gate: the programs against the original at length, by the seed. Needs their programs in target/bin (make test).
+# Not in the gate: the programs in target/bin (make test) against the original at length, by the seed.
 compare:
 	cd tools/oracle && cargo build --release
 	tools/oracle/target/release/oracle compare-calls target/bin/sid_cases 1000 100000 1

@@ -1,16 +1,17 @@
 -- Document 01, 'Data bus': n clocks after a drive, with no drive or reset since, the byte keeps exactly its bits whose hold exceeds n.
 -- For every byte and every n. Assumes nothing.
-use Prim.Native.Nat.{ℕ, zero, suc, _+_, _-_, _^_, _<_, min}
+use Prim.Native.Nat.{ℕ, zero, suc, _+_, _-_, _/_, _%_, _^_, _<_, min}
 use native.Mathlib.Omega.{arith}
 use native.Mathlib.Numerals.{add-one}
 use mathlib.Core.Path.{_≡_, refl, ap, sym, _∙_}
-use mathlib.Core.Bool.{Bool, true, false}
+use mathlib.Core.Bool.{Bool, true, false, cond}
 use lib.Dec.{ltb, eqb}
+use lib.ListN.{getD}
 use borrow.Author.Tests.{ltb-true, ltb-false, eqb-true, eqb-false}
 use Rattle.laws.specs.Times.{times}
 use Rattle.bus.specs.declared.InternalDataBus.{InternalDataBus}
 use Rattle.bus.specs.Bus.{holds, kept, nextExpiry, driven, clocked, clocks}
-use Rattle.bus.proofs.Kept.{kept-le, kept-all, kept-none, kept-later}
+use Rattle.bus.proofs.Kept.{kept-le, kept-all, kept-none, kept-later, kept-bit}
 use Rattle.bus.proofs.Expiry.{kept-safe}
 use Rattle.bus.proofs.Clock.{clocked-empty, clocked-before, clocked-at}
 
@@ -75,3 +76,8 @@ fading v (suc n) h = rw add-one at (fading-step v n (clocks n (driven v)) (fadin
 -- THE LAW
 pub byte-fades : (v n : ℕ) → v < 256 → clocks n (driven v) .value ≡ kept holds v n
 byte-fades v n h = fading v n h .byte
+
+-- bit by bit: bit k is kept exactly if its hold exceeds n
+pub bit-fades : (v n k : ℕ) → v < 256 → k < 8 → clocks n (driven v) .value / 2 ^ k % 2 ≡ cond (ltb n (getD holds k 0)) (v / 2 ^ k % 2) 0
+unfolding holds
+bit-fades v n k h l = ap (λ (x : ℕ). x / 2 ^ k % 2) (byte-fades v n h) ∙ kept-bit holds v n k l

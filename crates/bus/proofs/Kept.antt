@@ -10,12 +10,12 @@ use lib.ListN.{length, getD, drop}
 use lib.Seq.{drop-cons}
 use lib.Dec.{ltb, leb, leb→le, lit<}
 use borrow.Author.Tests.{lt-ltb, le-ltb, ltb-true}
+use Rattle.laws.proofs.Cond.{either}
 use Rattle.laws.proofs.Table.{at}
 use Rattle.bus.specs.Bus.{holds, kept}
 
 cond-le : (b : Bool) (x : ℕ) → cond b x 0 ≤ x
-cond-le true x = omega arith
-cond-le false x = omega arith
+cond-le b x = either (λ (m : ℕ). m ≤ x) b x 0 (omega arith) (omega arith)
 
 pub kept-le : (hs : List ℕ) (v n : ℕ) → kept hs v n ≤ v
 unfolding kept

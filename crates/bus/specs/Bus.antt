@@ -29,11 +29,11 @@ nextExpiry (h ∷ hs) v n = min (cond (eqb (v % 2) 1) (cond (ltb n h) h noExpiry
 unfoldable pub fresh : InternalDataBus
 fresh = record { value = 0; age = 0; «next_expiry» = noExpiry }
 
--- 'every write drives the byte'; a driven read too (drive, read_driven)
+-- 'Every write, also to an unused address, drives the byte'; a driven read too (drive, read_driven)
 unfoldable pub driven : ℕ → InternalDataBus
 driven v = record { value = v; age = 0; «next_expiry» = nextExpiry holds v 0 }
 
--- 'Reads of 0x19 to 0x1c … drive what they return' (read_driven)
+-- 'Reads of 0x19 to 0x1c … drive what they return' (read_driven); any other gives the value and leaves the bus as it is (read_floating)
 unfoldable pub drivenRead : ℕ → DrivenRead
 drivenRead v = record { bus = driven v; byte = v }
 

@@ -6,7 +6,7 @@ use native.Mathlib.Omega.{arith}
 use lib.Dec.{eqb, ltb}
 use borrow.Author.Tests.{ne-eqb, ltb-true}
 use Rattle.laws.proofs.Bools.{implies}
-use Rattle.laws.proofs.Cond.{by-test}
+use Rattle.laws.proofs.Cond.{by-test, either}
 use Rattle.bus.specs.Bus.{driven, clocked as Bus·clocked}
 use Rattle.bus.specs.declared.InternalDataBus.{InternalDataBus}
 use Rattle.envelope.specs.Envelope.{clocked as Envelope·clocked, targetRefreshed, attackDecaySet, sustainReleaseSet, gateSet}
@@ -144,17 +144,17 @@ oscillator-face : (v : Voice) (r value : ℕ) (e : Envelope) → faceOf (written
 unfolding writtenVoice
 oscillator-face v r value e =
     let P : Oscillator → Type 0 = λ x. faceOf x e ≡ faceOf (v .oscillator) e in
-    by-test P (eqb r 0) _ _ (λ _. refl)
-    (λ _. by-test P (eqb r 1) _ _ (λ _. refl)
-    (λ _. by-test P (eqb r 2) _ _ (λ _. refl)
-    (λ _. by-test P (eqb r 3) _ _ (λ _. refl)
-    (λ _. by-test P (eqb r 4) _ _ (λ _. control-face (v .oscillator) value e) (λ _. refl)))))
+    either P (eqb r 0) _ _ refl
+    (either P (eqb r 1) _ _ refl
+    (either P (eqb r 2) _ _ refl
+    (either P (eqb r 3) _ _ refl
+    (either P (eqb r 4) _ _ (control-face (v .oscillator) value e) refl))))
 
 envelope-face : (v : Voice) (r value : ℕ) (o : Oscillator) → faceOf o (writtenVoice v r value .envelope) ≡ faceOf o (v .envelope)
 unfolding writtenVoice gateSet attackDecaySet sustainReleaseSet targetRefreshed
 envelope-face v r value o =
     let P : Envelope → Type 0 = λ x. faceOf o x ≡ faceOf o (v .envelope) in
-    by-test P (eqb r 4) _ _ (λ _. refl) (λ _. by-test P (eqb r 5) _ _ (λ _. refl) (λ _. by-test P (eqb r 6) _ _ (λ _. refl) (λ _. refl)))
+    either P (eqb r 4) _ _ refl (either P (eqb r 5) _ _ refl (either P (eqb r 6) _ _ refl refl))
 
 register-face : (v : Voice) (r value : ℕ) → face (writtenVoice v r value) ≡ face v
 register-face v r value = oscillator-face v r value (writtenVoice v r value .envelope) ∙ envelope-face v r value (v .oscillator)
@@ -163,7 +163,7 @@ pub write-face : (w : Which) (c : Mos6581) (address value : ℕ) → face (of w 
 unfolding writtenTo
 write-face w c address value =
     ap face (write-voice w c address value)
-    ∙ by-test (λ (x : Voice). face x ≡ face (of w c)) (eqb (register address / 7) (number w)) _ _ (λ _. register-face (of w c) (register address % 7) value) (λ _. refl)
+    ∙ either (λ (x : Voice). face x ≡ face (of w c)) (eqb (register address / 7) (number w)) _ _ (register-face (of w c) (register address % 7) value) refl
 
 -- a write to another voice, or to this one's frequency or pulse width, leaves its envelope
 low-envelope : (v : Voice) (r value : ℕ) → r < 4 → writtenVoice v r value .envelope ≡ v .envelope

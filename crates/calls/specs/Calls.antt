@@ -47,7 +47,7 @@ pub data Each (allows : Call → Bool) : List Call → Type 0 where
   none : Each allows []
   next : {call : Call} {calls : List Call} → allows call ≡ true → Each allows calls → Each allows (call ∷ calls)
 
--- 'no reset and no write to that voice's control or envelope registers'
+-- 'neither a reset nor a write to that voice's control or envelope registers'
 unfoldable pub spares : Which → Call → Bool
 spares w (write address value) = not (eqb (register address / 7) (number w)) || ltb (register address % 7) 4
 spares w (read address) = true

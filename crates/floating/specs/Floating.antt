@@ -15,11 +15,11 @@ use Rattle.floating.specs.declared.FloatingBus.{FloatingBus}
 abbrev pub lines : Floating → List ℕ → FloatingBus
 lines f charge = record { numbers = f; charge = charge }
 
--- the lines freshly made, and once another waveform is selected (new, reset)
+-- the lines freshly made, and once a waveform is selected (new, reset)
 unfoldable pub fresh : FloatingBus
 fresh = record { numbers = record { value = 0; «hold_until» = never; «next_leak» = never }; charge = charged 0 12 }
 
--- 'Selecting waveform 0 from another captures the last code on floating lines' (capture)
+-- 'Selecting waveform 0 from another captures the last code on floating lines' (capture; WAVEFORM_FLOAT_HOLD_CYCLES, WAVEFORM_FLOAT_LEAK_INTERVAL_CYCLES)
 unfoldable pub captured : ℕ → ℕ → FloatingBus
 captured code cycle = record {
   numbers = record { value = code % 4096; «hold_until» = after cycle 1137140; «next_leak» = after (after cycle 1137140) 8192 };
@@ -33,15 +33,15 @@ lost q = q - max (q / 12) 1
 unfoldable pub leakStep : List ℕ → List ℕ
 leakStep charge = build (λ i. lost (getD charge i 0)) 12
 
--- whether a leak is due
+-- whether a leak is due: the lines show something, and hold and next leak have come (sample)
 unfoldable pub leaks : Floating → ℕ → Bool
 leaks f cycle = not (eqb (f .value) 0) && (leb (f .«hold_until») cycle && leb (f .«next_leak») cycle)
 
--- the code of the lines that still hold their charge
+-- the code of the lines whose charge is at least the threshold (sample; WAVEFORM_FLOAT_THRESHOLD)
 abbrev pub retained : List ℕ → ℕ
 retained charge = highTo 18000 charge 12 % 4096
 
--- the lines once they have leaked to these charges, and the next leak would be at a time
+-- the lines once they have leaked to these charges, and the next leak would be at a time (sample)
 unfoldable pub leakedTo : Floating → List ℕ → ℕ → FloatingBus
 leakedTo f charge at = record {
   numbers = record { value = retained charge; «hold_until» = f .«hold_until»; «next_leak» = cond (eqb (retained charge) 0) never at };
@@ -52,7 +52,7 @@ leakedTo f charge at = record {
 abbrev pub leakSteps : ℕ → ℕ → ℕ
 leakSteps at cycle = (cycle - at) / 8192 + 1
 
--- the lines sampled at a cycle; what they give is the value they then have
+-- the lines sampled at a cycle (sample): the leak steps that are due, one after the other. What they give is the value they then have
 unfoldable pub sampled : FloatingBus → ℕ → FloatingBus
 sampled b cycle =
     cond (leaks (b .numbers) cycle)

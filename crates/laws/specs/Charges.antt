@@ -15,7 +15,7 @@ chargeFor word i = cond (eqb (word / 2 ^ i % 2) 0) 0 65535
 unfoldable pub charged : ℕ → ℕ → List ℕ
 charged word n = build (chargeFor word) n
 
--- the first n charges as the bits of a word, each set where its charge is at least the threshold
+-- charges as the bits of a word, each set where its charge is at least the threshold: bit n beside those below it, then the first n
 abbrev pub highAt : ℕ → List ℕ → ℕ → ℕ → ℕ
 highAt threshold charge n word = cond (leb threshold (getD charge n 0)) (bitOr word (2 ^ n)) word
 

@@ -1,4 +1,4 @@
-// The lines that `replay` prints, each put at the start of a lent buffer of 64 bytes, more than any line has.
+// The lines that `replay` prints (document 01, 'Score and program'), each put at the start of a lent buffer of 64 bytes, more than any line has.
 use refusals::Refused;
 ghost use mathlib.Core.Path.{_≡_};
 ghost use Prim.Native.Nat.{_+_, _≤_, _<_};

@@ -9,7 +9,7 @@ use lib.Bits.{bitOr, bitXor, xor-lt, or-shr, or-zero-l}
 use lib.Dec.{eqb}
 use lib.Pow.{shl-shr, field}
 use Rattle.laws.specs.Cycle.{never, after}
-use Rattle.noise.specs.Noise.{captures, captureNumbers, clocked, come, feedback, shiftedState, shiftedNumbers, transferred, stepped}
+use Rattle.noise.specs.Noise.{captures, captureNumbers, caught, clocked, come, feedback, shiftedState, shiftedNumbers, transferred, stepped}
 use Rattle.noise.specs.declared.NoiseGenerator.{NoiseGenerator}
 
 -- stage 22 of a shift of 23 stages is the feedback
@@ -22,10 +22,6 @@ feedback-enters s h =
     ∙ ap (λ (x : ℕ). x % 2)
     (or-shr (s / 2) (feedback s * 2 ^ 22) 22 ∙ ap (λ (x : ℕ). bitOr x (feedback s * 2 ^ 22 / 2 ^ 22)) z ∙ or-zero-l (feedback s * 2 ^ 22 / 2 ^ 22) ∙ shl-shr (feedback s) 22)
     ∙ omega arith
-
--- a register that has captured its stages at a cycle
-abbrev pub caught : NoiseGenerator → ℕ → NoiseGenerator
-caught g c = record { numbers = captureNumbers (g .numbers) c; «captured_charge» = g .charge; charge = g .charge }
 
 -- a capture leaves the stages alone
 clocked-state : (g : NoiseGenerator) (rising c : ℕ) → clocked g rising c .numbers .state ≡ g .numbers .state

@@ -1,5 +1,6 @@
 -- The noise register: document 01, 'Oscillator'; NoiseGenerator of oscillator.rs, in that file's order.
 -- Its numbers (Noise) stand apart from the two lists of charges.
+-- 'Capture, test entry and exit, charge and pull-down follow document 000 rule for rule, with wrapping on the 64-bit cycle.'
 use Prim.Native.Nat.{ℕ, zero, suc, _+_, _-_, _*_, _/_, _%_, _^_, min, max}
 use mathlib.Core.Bool.{Bool, true, false, cond, not, _&&_, _||_}
 use mathlib.Core.List.{List, [], _∷_, _++_}
@@ -13,7 +14,7 @@ use Rattle.noise.specs.declared.Noise.{Noise}
 use Rattle.noise.specs.declared.NoiseGenerator.{NoiseGenerator}
 use Rattle.noise.specs.declared.Stages.{Stages}
 
--- a register out of its numbers and charges
+-- a register out of its numbers and charges; what it shows is its `visible` (output)
 abbrev pub generator : Noise → List ℕ → List ℕ → NoiseGenerator
 generator n capturedCharge charge = record { numbers = n; «captured_charge» = capturedCharge; charge = charge }
 
@@ -48,7 +49,7 @@ fresh = record {
   charge = charged 0x3fffff 23;
 }
 
--- test is entered: a shift under way is dropped, and the first leak is an interval away (enter_test)
+-- test is entered: a shift under way is dropped, and the first leak is an interval away (enter_test; NOISE_TEST_LEAK_INTERVAL_CYCLES)
 unfoldable pub enteredTest : NoiseGenerator → ℕ → NoiseGenerator
 enteredTest g cycle = record {
   numbers = record {
@@ -63,7 +64,7 @@ enteredTest g cycle = record {
   charge = g .charge;
 }
 
--- the stages whose charge is a logic 1 (the loop of leave_test)
+-- the stages whose charge is a logic 1 (the loop of leave_test; NOISE_TEST_LOGIC_THRESHOLD)
 abbrev pub sampled : List ℕ → ℕ
 sampled charge = highTo 32768 charge 23 % 2 ^ 23
 
@@ -86,7 +87,7 @@ leftTest g cycle = record {
 unfoldable pub captures : Noise → ℕ → Bool
 captures n rising = not (eqb (rising / 2 ^ 19 % 2) 0) && eqb (n .«transfer_at») never
 
--- 'the shift lands two clocks later': the numbers, then the register
+-- 'the shift lands two clocks later' (clock): the numbers after a capture, the register, and either way of a clock
 unfoldable pub captureNumbers : Noise → ℕ → Noise
 captureNumbers n cycle = record {
   state = n .state;
@@ -97,9 +98,11 @@ captureNumbers n cycle = record {
   «next_leak» = n .«next_leak»;
 }
 
+abbrev pub caught : NoiseGenerator → ℕ → NoiseGenerator
+caught g cycle = record { numbers = captureNumbers (g .numbers) cycle; «captured_charge» = g .charge; charge = g .charge }
+
 unfoldable pub clocked : NoiseGenerator → ℕ → ℕ → NoiseGenerator
-clocked g rising cycle =
-    cond (captures (g .numbers) rising) (record { numbers = captureNumbers (g .numbers) cycle; «captured_charge» = g .charge; charge = g .charge }) g
+clocked g rising cycle = cond (captures (g .numbers) rising) (caught g cycle) g
 
 -- whether a time that is set has come
 unfoldable pub come : ℕ → ℕ → Bool
@@ -109,21 +112,22 @@ come at cycle = not (eqb at never) && leb at cycle
 abbrev pub transfers : Noise → ℕ → Bool
 transfers n cycle = come (n .«transfer_at») cycle
 
--- 'Feedback is stage 0 xor stage 5'
+-- 'Feedback is stage 0 xor stage 5' (execute_transfer)
 abbrev pub feedback : ℕ → ℕ
 feedback captured = bitXor (captured % 2) (captured / 2 ^ 5 % 2)
 
--- the shift: the feedback enters as stage 22, every other stage takes the one above it
+-- the shift: the feedback enters as stage 22, every other stage takes the one above it (execute_transfer)
 unfoldable pub shiftedState : ℕ → ℕ
 shiftedState captured = bitOr (captured / 2) (feedback captured * 2 ^ 22) % 2 ^ 23
 
--- the charge that enters with the feedback
+-- the charges shift likewise, with a full charge for a feedback of 1
 unfoldable pub incoming : Noise → ℕ
 incoming n = cond (eqb (feedback (n .captured)) 0) 0 65535
 
 unfoldable pub shiftedCharge : List ℕ → ℕ → List ℕ
 shiftedCharge charge top = drop 1 charge ++ (top ∷ [])
 
+-- the numbers after a shift, then the register (execute_transfer)
 unfoldable pub shiftedNumbers : Noise → Noise
 shiftedNumbers n = record {
   state = shiftedState (n .captured);
@@ -148,7 +152,7 @@ transferred g cycle =
 unfoldable pub recovered : ℕ → ℕ
 recovered q = cond (ltb q 65535) (min (q + max ((65535 - q) / 23) 1) 65535) q
 
--- a stage is marked as its charge reaches a logic 1
+-- a stage is marked as its charge reaches a logic 1 (relax)
 unfoldable pub marks : Stages → ℕ → Bool
 marks s i = leb 32768 (recovered (getD (s .charge) i 0)) && eqb (s .state / 2 ^ i % 2) 0
 
@@ -159,7 +163,7 @@ relaxedStage s i = record {
   charge = set (s .charge) i (recovered (getD (s .charge) i 0));
 }
 
--- one leak step: the first n stages, then all of them
+-- one leak step: the first n stages, then all of them (relax)
 unfoldable pub relaxedTo : Stages → ℕ → Stages
 relaxedTo s zero = s
 relaxedTo s (suc n) = relaxedStage (relaxedTo s n) n
@@ -167,7 +171,7 @@ relaxedTo s (suc n) = relaxedStage (relaxedTo s n) n
 abbrev pub relaxStep : Stages → Stages
 relaxStep s = relaxedTo s 23
 
--- the register once its stages have relaxed to s and the next leak is at a time: what changed shows, and is captured if no shift is under way
+-- the register once its stages have relaxed to s and the next leak is at a time: what changed shows, and is captured if no shift is under way (relax)
 unfoldable pub takes : Noise → Stages → Bool
 takes n s = s .changed && eqb (n .«transfer_at») never
 
@@ -189,6 +193,7 @@ settledTo g s at = record {
 abbrev pub leakSteps : ℕ → ℕ → ℕ
 leakSteps at cycle = (cycle - at) / 65536 + 1
 
+-- the leak steps that are due, one after the other (relax)
 unfoldable pub relaxed : NoiseGenerator → ℕ → NoiseGenerator
 relaxed g cycle =
     cond (come (g .numbers .«next_leak») cycle)
@@ -201,7 +206,7 @@ relaxed g cycle =
 abbrev pub low : ℕ → ℕ → Bool
 low waveform n = eqb (waveform / 2 ^ (11 - n) % 2) 0
 
--- each low line takes a fourteenth of its stage's charge, and at least one (load_pulse_coupling): one line, the first n, then all eight
+-- each low line takes a fourteenth of its stage's charge, and at least one (load_pulse_coupling; NOISE_PULSE_CHARGE_DIVISOR): one line, the first n, then all eight
 abbrev pub drained : ℕ → ℕ
 drained q = q - max (q / 14) 1
 
@@ -234,10 +239,11 @@ clearedTo waveform state (suc n) = clearedAt waveform n (clearedTo waveform stat
 abbrev pub cleared : ℕ → ℕ → ℕ
 cleared waveform state = clearedTo waveform state 8 % 2 ^ 23
 
--- what is captured is pulled down too where the shift lands by the next clock
+-- what is captured is pulled down too where the shift lands by the next clock (pull_down)
 unfoldable pub affectsCapture : Noise → ℕ → Bool
 affectsCapture n cycle = come (n .«transfer_at») (after cycle 1)
 
+-- the numbers after a pull-down, then the register (pull_down)
 unfoldable pub pulledNumbers : Noise → ℕ → ℕ → Noise
 pulledNumbers n waveform cycle = record {
   state = cleared waveform (n .state);
@@ -259,7 +265,7 @@ pulledDown g waveform cycle = record {
 unfoldable pub stepped : NoiseGenerator → Bool → ℕ → ℕ → NoiseGenerator
 stepped g test rising cycle = cond test (relaxed g cycle) (clocked (transferred g cycle) rising cycle)
 
--- whether it changes anything
+-- whether that clock changes anything (`step-still`)
 unfoldable pub stepDue : Noise → Bool → ℕ → ℕ → Bool
 stepDue n test rising cycle = cond test (come (n .«next_leak») cycle) (transfers n cycle || captures n rising)
 

@@ -127,7 +127,7 @@ fn shifted_state(captured: u32) -> u32
 }
 
 // The charges after `execute_transfer`.
-pub fn shifted_charge(captured_charge: [u16; 23], incoming: u16) -> [u16; 23]
+fn shifted_charge(captured_charge: [u16; 23], incoming: u16) -> [u16; 23]
     ensures { λ r. ⌜ r ≡ shiftedCharge «captured_charge» incoming ⌝ }
 {
     let mut next_charge = captured_charge;
@@ -243,7 +243,7 @@ impl Stages {
 
 impl Noise {
     // Whether `clock` captures.
-    pub fn captures(self, rising_bits: u32) -> bool
+    fn captures(self, rising_bits: u32) -> bool
         ensures { λ r. ⌜ r ≡ Noise·captures self «rising_bits» ⌝ }
     {
         if rising_bits & NOISE_EVENT_MASK == 0 {
@@ -253,7 +253,7 @@ impl Noise {
     }
 
     // The numbers after a capture.
-    pub fn capture(self, cycle: u64) -> Noise
+    fn capture(self, cycle: u64) -> Noise
         ensures { λ r. ⌜ r ≡ captureNumbers self cycle ⌝ }
     {
         let transfer_at = std::num::wrapping_add_u64(cycle, 2);
@@ -268,14 +268,14 @@ impl Noise {
     }
 
     // Whether `execute_transfer` shifts.
-    pub fn transfers(self, cycle: u64) -> bool
+    fn transfers(self, cycle: u64) -> bool
         ensures { λ r. ⌜ r ≡ Noise·transfers self cycle ⌝ }
     {
         has_come(self.transfer_at, cycle)
     }
 
     // The charge that a shift puts into stage 22.
-    pub fn incoming(self) -> u16
+    fn incoming(self) -> u16
         ensures { λ r. ⌜ r ≡ Noise·incoming self ⌝ }
     {
         if feedback(self.captured) == 0 {
@@ -285,7 +285,7 @@ impl Noise {
     }
 
     // The numbers after a shift.
-    pub fn shift(self) -> Noise
+    fn shift(self) -> Noise
         ensures { λ r. ⌜ r ≡ shiftedNumbers self ⌝ }
     {
         let captured = self.captured;
@@ -302,14 +302,14 @@ impl Noise {
     }
 
     // Whether `pull_down` reaches what is captured.
-    pub fn affects_capture(self, cycle: u64) -> bool
+    fn affects_capture(self, cycle: u64) -> bool
         ensures { λ r. ⌜ r ≡ affectsCapture self cycle ⌝ }
     {
         has_come(self.transfer_at, std::num::wrapping_add_u64(cycle, 1))
     }
 
     // The numbers after `pull_down`.
-    pub fn pull(self, waveform: u16, cycle: u64) -> Noise
+    fn pull(self, waveform: u16, cycle: u64) -> Noise
         ensures { λ r. ⌜ r ≡ pulledNumbers self waveform cycle ⌝ }
     {
         let state = cleared(self.state, waveform) & NOISE_MASK;

@@ -11,6 +11,7 @@ unfoldable pub ticksThen : ℕ → List Call → List Call
 ticksThen zero calls = calls
 ticksThen (suc n) calls = tick ∷ ticksThen n calls
 
+-- a field's own call, and then others
 abbrev pub callThen : Field → List Call → List Call
 callThen (Write t a v) calls = write a v ∷ calls
 callThen (Read t a) calls = read a ∷ calls

@@ -9,6 +9,7 @@ use Rattle.player.specs.declared.Listed.{Listed}
 use Rattle.player.specs.declared.Listed.the-variants.{Written, NoRoom}
 use Rattle.player.specs.Listing.{listing}
 
+-- the listing's length, or that the room is less
 unfoldable pub intoAnswer : List ℕ → ℕ → Listed
 intoAnswer s room = cond (ltb room (length (listing s))) NoRoom (Written (length (listing s)))
 

@@ -29,6 +29,7 @@ abbrev pub restBy : Checked → Rest
 restBy (Accepted clocks) = Fields 0
 restBy (Unaccepted r) = Refusal r
 
+-- 'The score is checked whole before the first clock'
 unfoldable pub startOf : List ℕ → Player
 startOf s = player fresh (restBy (checked s))
 

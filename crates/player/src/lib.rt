@@ -1,4 +1,4 @@
-// The player of scores: one field a step, and the whole listing in a lent buffer.
+// The player of scores (document 01, 'Score and program'): one field a step, and the whole listing in a lent buffer.
 use panel::Panel;
 use refusals::Refused;
 use score::Checked;

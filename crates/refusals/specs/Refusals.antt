@@ -1,4 +1,4 @@
--- Document 01, 'Numbers a caller can get back': the number of each refusal, with the table's words. Every promise of a refusal cites it.
+-- Document 01, 'Numbers a caller can get back': the number of each refusal, with the table's words. Every promise of a number cites it.
 use Prim.Native.Nat.{ℕ}
 use Rattle.refusals.specs.declared.Refused.{Refused}
 use Rattle.refusals.specs.declared.Refusal.{Refusal}

@@ -1,10 +1,11 @@
 -- A level that is held, and one that has fallen to the sustain level, stay on every clock, whatever the counters do. Assumes nothing.
 use Prim.Native.Nat.{ℕ, zero, suc, _-_}
 use mathlib.Core.Path.{_≡_, sym, _∙_, subst}
-use mathlib.Core.Bool.{Bool, true, false, cond, false≢true}
+use mathlib.Core.Bool.{Bool, true, cond, false≢true}
 use borrow.Author.Tests.{eq-eqb}
 use lib.Dec.{eqb}
 use Rattle.laws.specs.Times.{times}
+use Rattle.laws.proofs.Cond.{by-test, either}
 use Rattle.envelope.specs.declared.Envelope.{Envelope}
 use Rattle.envelope.specs.declared.EnvelopeMotion.{EnvelopeMotion}
 use Rattle.envelope.specs.declared.EnvelopeMotion.the-variants.{FallingToSustain}
@@ -20,39 +21,34 @@ module _ (R : ℕ → Bool → GateHistory → EnvelopeMotion → ℕ → ℕ �
   abbrev Of : Envelope → Type 0
   Of e = R (e .volume) (e .«floor_hold») (e .gate) (e .motion) (e .«motion_delay») (e .«hold_level»)
 
-  either : (b : Bool) (x y : Envelope) → Of x → Of y → Of (cond b x y)
-  either true x y p q = p
-  either false x y p q = q
-
   taken : (b : Bool) (x y : Envelope) → b ≡ true → Of x → Of (cond b x y)
-  taken true x y h a = a
-  taken false x y h a = absurd (false≢true h)
+  taken b x y h a = by-test Of b x y (λ _. a) (λ f. absurd (false≢true (sym f ∙ h)))
 
   divisor-keeps : (e : Envelope) → Of e → Of (divisorCommitted e)
   unfolding divisorCommitted
-  divisor-keeps e a = either (eqb (e .«queued_curve_divisor») 0) _ _ a a
+  divisor-keeps e a = either Of (eqb (e .«queued_curve_divisor») 0) _ _ a a
 
   curve-keeps : (e : Envelope) → Of e → Of (curveClocked e)
   unfolding curveClocked curveDue curveEnded
   curve-keeps e a =
-      either (eqb (e .«curve_delay») 0) _ _ a
-      (either (eqb (e .«curve_delay» - 1) 0) _ _ (either (changeDue (e .motion) (eqb (e .volume) (e .«hold_level»))) _ _ a a) a)
+      either Of (eqb (e .«curve_delay») 0) _ _ a
+      (either Of (eqb (e .«curve_delay» - 1) 0) _ _ (either Of (changeDue (e .motion) (eqb (e .volume) (e .«hold_level»))) _ _ a a) a)
 
   counted-keeps : (e : Envelope) → Of e → Of (curveCounted e)
   unfolding curveCounted
-  counted-keeps e a = either (eqb (e .«curve_count») (e .«curve_divisor»)) _ _ a a
+  counted-keeps e a = either Of (eqb (e .«curve_count») (e .«curve_divisor»)) _ _ a a
 
   used-keeps : (e : Envelope) → Of e → Of (matchUsed e)
   unfolding matchUsed
-  used-keeps e a = either (risingRateSelected e) _ _ a (either (e .«floor_hold») _ _ a (counted-keeps _ a))
+  used-keeps e a = either Of (risingRateSelected e) _ _ a (either Of (e .«floor_hold») _ _ a (counted-keeps _ a))
 
   match-keeps : (e : Envelope) → Of e → Of (matchConsumed e)
   unfolding matchConsumed
-  match-keeps e a = either (e .«matched_rate») _ _ (used-keeps _ a) a
+  match-keeps e a = either Of (e .«matched_rate») _ _ (used-keeps _ a) a
 
   rate-keeps : (e : Envelope) → Of e → Of (rateClocked e)
   unfolding rateClocked
-  rate-keeps e a = either (eqb (e .«rate_phase») (e .«rate_target_phase»)) _ _ a a
+  rate-keeps e a = either Of (eqb (e .«rate_phase») (e .«rate_target_phase»)) _ _ a a
 
   -- so it stays, if gate, motion and a level delay that ends keep it
   module _ (gate : (e : Envelope) → Of e → Of (gateSampled e)) (motion : (e : Envelope) → Of e → Of (motionCommitted e)) (level : (e : Envelope) → Of e → Of (amplitudeDue e)) where
@@ -65,7 +61,7 @@ module _ (R : ℕ → Bool → GateHistory → EnvelopeMotion → ℕ → ℕ �
         let e4 = amplitudeClocked e3 in
         let e5 = curveClocked e4 in
         let a3 = motion e2 (gate e1 (divisor-keeps (levelRead e) a)) in
-        let a4 = either (eqb (e3 .«amplitude_delay») 0) _ _ a3 (level _ a3) in
+        let a4 = either Of (eqb (e3 .«amplitude_delay») 0) _ _ a3 (level _ a3) in
         rate-keeps (matchConsumed e5) (match-keeps e5 (curve-keeps e4 a4))
 
     stays : (n : ℕ) (e : Envelope) → Of e → Of (clocks n e)
@@ -91,11 +87,11 @@ module _ (v : ℕ) where
 
   held-motion : (e : Envelope) → Of Held e → Of Held (motionCommitted e)
   unfolding motionCommitted targetRefreshed motionTaken
-  held-motion e a = either Held (eqb (e .«motion_delay») 0) _ _ a (either Held (eqb (e .«motion_delay» - 1) 0) _ _ a a)
+  held-motion e a = either (Of Held) (eqb (e .«motion_delay») 0) _ _ a (either (Of Held) (eqb (e .«motion_delay» - 1) 0) _ _ a a)
 
   held-level : (e : Envelope) → Of Held e → Of Held (amplitudeDue e)
   unfolding amplitudeDue
-  held-level e a = either Held (eqb (e .«amplitude_delay») 0) _ _ (taken Held (e .«floor_hold») _ _ (a .1) a) a
+  held-level e a = either (Of Held) (eqb (e .«amplitude_delay») 0) _ _ (taken Held (e .«floor_hold») _ _ (a .1) a) a
 
   pub held-stays : (n : ℕ) (e : Envelope) → At v true e → At v true (clocks n e)
   held-stays = stays Held held-gate held-motion held-level
@@ -113,7 +109,7 @@ module _ (v : ℕ) where
   unfolding amplitudeDue
   sustained-level e a =
       let s = subst (λ (m : EnvelopeMotion). Of Sustained (stepped m e)) (sym (a .4)) (sustained-step e a) in
-      either Sustained (eqb (e .«amplitude_delay») 0) _ _ (either Sustained (e .«floor_hold») _ _ a s) a
+      either (Of Sustained) (eqb (e .«amplitude_delay») 0) _ _ (either (Of Sustained) (e .«floor_hold») _ _ a s) a
 
   pub sustain-stays : (n : ℕ) (e : Envelope) → Of Sustained e → Of Sustained (clocks n e)
   sustain-stays =

@@ -7,6 +7,7 @@ use mathlib.Core.Bool.{Bool, true, false, cond, false≢true}
 use borrow.Author.Tests.{ne-eqb, eqb-true, eqb-false}
 use lib.Dec.{eqb}
 use Rattle.laws.specs.Times.{times}
+use Rattle.laws.proofs.Cond.{either}
 use Rattle.laws.proofs.Times.{times-first}
 use Rattle.envelope.specs.Envelope.{divisorFor, down}
 use Rattle.release.specs.Release.{isDivisor, steps, levelAfter, inForce, divisorAfter, asked, lag}
@@ -55,12 +56,10 @@ divisor-le d h = go (decLt 30 d)
     go (no l) = omega arith
 
 cond-le : (b : Bool) (x y n : ℕ) → x ≤ n → y ≤ n → cond b x y ≤ n
-cond-le true x y n p q = p
-cond-le false x y n p q = q
+cond-le b x y n = either (λ (m : ℕ). m ≤ n) b x y
 
 le-cond : (b : Bool) (x y n : ℕ) → n ≤ x → n ≤ y → n ≤ cond b x y
-le-cond true x y n p q = p
-le-cond false x y n p q = q
+le-cond b x y n = either (λ (m : ℕ). n ≤ m) b x y
 
 divisor-for-le : (v : ℕ) → divisorFor v ≤ 30
 unfolding divisorFor

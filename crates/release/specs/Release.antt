@@ -1,4 +1,4 @@
--- Document 01, 'Settled release', and demand 3: the states and clocks that it speaks of, and what it claims.
+-- Document 01, 'Settled release', and demand 3, whose sentence stands before `landing`: the states and clocks that it speaks of, and what it claims.
 use Prim.Native.Nat.{ℕ, zero, suc, _+_, _-_, _*_, _%_, _<_, _≤_}
 use mathlib.Core.Path.{_≡_}
 use mathlib.Core.Bool.{Bool, true, false, cond, _||_}
@@ -82,6 +82,7 @@ unfoldable pub stepClock : Envelope → ℕ → ℕ → ℕ
 stepClock e P zero = 0
 stepClock e P (suc k) = wait P (e .«rate_phase») + 2 + (matches e (suc k) - 1) * P + lag (divisorAfter (e .volume) (e .«curve_divisor») k)
 
+-- an envelope at level v, held or not
 abbrev pub At : ℕ → Bool → Envelope → Type 0
 At v held e = (e .volume ≡ v) × (e .«floor_hold» ≡ held)
 

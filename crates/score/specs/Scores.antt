@@ -54,6 +54,7 @@ abbrev pub clocksOf : List Field → ℕ
 clocksOf [] = 0
 clocksOf (f ∷ fs) = cond (isEnd f) (stampOf f) (clocksOf fs)
 
+-- 'The score is checked whole before the first clock': what the check answers
 abbrev pub answer : Parsed → Checked
 answer (good fs) = Accepted (clocksOf fs)
 answer (bad r) = Refused r

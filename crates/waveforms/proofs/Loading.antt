@@ -1,5 +1,5 @@
 -- Document 01, 'Line loading': the result has no line that its input lacks. It is a code of twelve bits, and settled 0 is 0. For every selection and
--- every value; then the starred cases. Assumes nothing.
+-- every value. Assumes nothing.
 use mathlib.Core.Path.{_≡_, refl, ap, sym, subst⁻¹, _∙_}
 use mathlib.Core.Bool.{Bool, true, false, cond, not}
 use mathlib.Core.List.{List}
@@ -16,6 +16,7 @@ use borrow.Author.Tests.{ltb-true, ltb-false}
 use Rattle.laws.specs.Build.{build}
 use Rattle.laws.specs.Times.{times}
 use Rattle.laws.proofs.Build.{build-at}
+use Rattle.laws.proofs.Cond.{either}
 use Rattle.laws.proofs.Table.{at-or}
 use Rattle.waveforms.specs.Constants.{0·0, retentionThresholds, loadingScales, bySelection}
 use Rattle.waveforms.specs.Waveforms.{interactionScale, chargeAt, discharge, drained, pass, retained, code, arrayOf, settledBy, settled, needsLoading, loaded}
@@ -136,11 +137,7 @@ settled-zero s = code-empty (bySelection retentionThresholds s) (charges s 0) 12
 
 loaded-either : (P : ℕ → Type 0) (s v : ℕ) → P (settled s v) → P (v % 4096) → P (loaded s v)
 unfolding loaded
-loaded-either P s v p q = go (needsLoading s)
-  where
-    go : (b : Bool) → P (cond b (settled s v) (v % 4096))
-    go true = p
-    go false = q
+loaded-either P s v = either P (needsLoading s) (settled s v) (v % 4096)
 
 pub loaded-lt : (s v : ℕ) → loaded s v < 4096
 loaded-lt s v = loaded-either (λ c. c < 4096) s v (settled-lt s v) (omega arith)

@@ -1,6 +1,5 @@
 -- Laws of `discharge`, taken for all twelve lines at once, and of `code`: none of the terms, and one term more. Assumes nothing.
 use mathlib.Core.Path.{_≡_, refl, ap, ap₂}
-use mathlib.Core.Bool.{Bool, true, false, cond}
 use mathlib.Core.List.{List}
 use Prim.Native.Nat.{ℕ, zero, suc, _+_, _*_, _^_, _<_, _≤_}
 use native.Mathlib.Omega.{arith}
@@ -12,6 +11,7 @@ use lib.Pow.{pow-mono}
 use lib.Ieee.{Float, nan, le}
 use Rattle.laws.specs.Build.{build}
 use Rattle.laws.proofs.Build.{built-at, build-same}
+use Rattle.laws.proofs.Cond.{either}
 use Rattle.waveforms.specs.Waveforms.{pulled, discharge, drained, pass, retained, code}
 
 module _ (cs : List Float) (load : Float) (ps : List Float) where
@@ -43,11 +43,7 @@ module _ (cs : List Float) (load : Float) (ps : List Float) where
 
 retained-le : (t l : Float) (n : ℕ) → retained t l n ≤ 2 ^ n
 unfolding retained
-retained-le t l n = go (le t l)
-  where
-    go : (b : Bool) → cond b (2 ^ n) 0 ≤ 2 ^ n
-    go true = omega arith
-    go false = omega arith
+retained-le t l n = either (λ (m : ℕ). m ≤ 2 ^ n) (le t l) (2 ^ n) 0 (omega arith) (omega arith)
 
 module _ (t : Float) (cs : List Float) where
   pub code-none : 0 ≡ code t cs 0

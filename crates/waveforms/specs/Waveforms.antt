@@ -54,7 +54,7 @@ powi base n = power n 1·0 base n
 
 -- ---- the line array of a selection (LineArray::new)
 
--- two lines so far apart
+-- the coupling of two lines so far apart
 unfoldable pub coupled : ℕ → Float → ℕ → Float
 coupled s direction distance =
     neighbourCoupling ⊗ powi (bySelection distanceDecays s) (distance - 1) ⊗ (1·0 ⊕ direction ⊗ bySelection directionalSkews s)
@@ -128,6 +128,7 @@ unfoldable pub code : Float → List Float → ℕ → ℕ
 code threshold charges zero = 0
 code threshold charges (suc n) = code threshold charges n + retained threshold (getD charges n nan) n
 
+-- the code that a value settles to on a line array's lines
 unfoldable pub settledBy : LineArray → ℕ → ℕ
 settledBy a value =
     code (bySelection retentionThresholds (a .selection))

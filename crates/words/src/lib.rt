@@ -1,4 +1,4 @@
-// Numbers in bytes, little endian. A number whose bytes are not all there is 0.
+// Numbers in bytes, little endian (document 01, 'Score and program'). A number whose bytes are not all there is 0.
 ghost use mathlib.Core.Path.{_≡_};
 ghost use Prim.Native.Nat.{_+_};
 ghost use lib.Dec.{leb};

@@ -1,6 +1,5 @@
 use borrow.Author.Needs.{needs}
 use native.Mathlib.Omega.{arith}
-use denote.Ref.{now}
 use Rattle.listing.proofs.Joins.{no-room, room}
 use Rattle.listing.proofs.copy_into.Statement.{statement}
 use Rattle.listing.proofs.copy_into.Tie as tie
