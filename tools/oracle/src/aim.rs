@@ -9,7 +9,7 @@ use crate::sid::sid::Mos6581;
 
 const TEST: u8 = 0x08;
 pub const BIT_19: u32 = 0x08_0000;
-const BIT_23: u32 = 0x80_0000;
+pub const BIT_23: u32 = 0x80_0000;
 const PHASE_MASK: u32 = 0xff_ffff;
 
 const FLOAT_TO_THE_END: u32 = 1_260_030;

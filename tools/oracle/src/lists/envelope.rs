@@ -164,9 +164,9 @@ fn call_on_random_states(recorder: &mut Recorder, random: &mut Random) {
         ];
         for call in calls {
             let mut state = any_state(random);
-            // Every other reset finds a level of 0.
+            // Every other reset finds a level of 0 or 1 by turns.
             if round % 2 == 0 && matches!(call, Reset) {
-                state.volume = 0;
+                state.volume = round / 2 % 2;
             }
             recorder.make(&[SetState(state), call]);
         }

@@ -51,6 +51,7 @@ fn recorded() -> Recorder {
     couple_in_test(&mut recorder, &mut random);
     float_to_the_end(&mut recorder);
     float_by_jumps(&mut recorder, &mut random);
+    meet_the_thresholds(&mut recorder);
     combine_and_feed_back(&mut recorder, &mut random);
     compare_late(&mut recorder, &mut random);
     wrap_the_cycle(&mut recorder, &mut random);
@@ -572,6 +573,24 @@ fn float_by_jumps(recorder: &mut Recorder, random: &mut Random) {
     recorder.make(&[Tick(0), Reset, Tick(0)]);
     recorder.alter(|state| state.waveform = 0x10);
     recorder.make(&[Tick(0), WriteControl(0x00), Tick(0)]);
+}
+
+/// Charges at a threshold and one below it by turns: sampled so, and come to it by one leak.
+fn meet_the_thresholds(recorder: &mut Recorder) {
+    fn by_turns<const N: usize>(charge: u16) -> [u16; N] {
+        std::array::from_fn(|place| charge - place as u16 % 2)
+    }
+    start_with_noise(recorder, 0);
+    recorder.make(&[WriteControl(TEST)]);
+    recorder.alter(|state| state.noise_charge = by_turns(32_768));
+    recorder.make(&[WriteControl(0), Clock]);
+    start_with_noise(recorder, 0);
+    recorder.make(&[WriteControl(TEST)]);
+    recorder.alter(|state| state.noise_charge = by_turns(32_768 - (65_535 - 31_279) / 23));
+    recorder.make(&[Jump(LEAK_INTERVAL), Clock]);
+    recorder.make(&[New, WriteControl(0x10), Latch(0xfff), WriteControl(0)]);
+    recorder.alter(|state| state.bus_charge = by_turns(18_000 + 19_636 / 12));
+    recorder.make(&[Jump(FLOAT_HOLD + FLOAT_INTERVAL), Tick(0)]);
 }
 
 /// Joined lines, ring, and the feedback of a saw onto the phase.

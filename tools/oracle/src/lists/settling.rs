@@ -9,7 +9,7 @@ use crate::sid::constants::{BIT_COUNT, WAVEFORM_COUNT};
 use crate::sid::waveforms::settle_under;
 
 const SEED: u64 = 144;
-const EDGES_PER_SELECTION: usize = 24;
+const EDGES_PER_SELECTION: usize = 40;
 /// From nearly -1.0, which drains no line, to nearly 1.0, which drains all.
 const UNITS: i32 = 1 << 24;
 

@@ -23,6 +23,7 @@ const MIRRORS: [u16; 5] = [0x0000, 0x0020, 0x00e0, 0xd400, 0xffe0];
 pub fn list() -> Vec<u8> {
     let mut recorder = Recorder::new();
     let mut random = Random::seeded(SEED);
+    take_it_as_it_comes(&mut recorder);
     name_voices(&mut recorder);
     reach_every_address(&mut recorder, &mut random);
     write_each_register_alone(&mut recorder, &mut random);
@@ -65,6 +66,17 @@ fn voice(number: usize, frequency: u16, width: u16, rates: u16, control: u8) -> 
 
 fn control(number: usize, value: u8) -> Call {
     Write(7 * number as u16 + 4, value)
+}
+
+/// The chip as the original's own `new` makes it; `New` is the oracle's `renew`.
+fn take_it_as_it_comes(recorder: &mut Recorder) {
+    recorder.make(&[
+        Read(0x1c),
+        Read(0x1b),
+        Read(0x1a),
+        Read(0x19),
+        Watch(0x1c, 20),
+    ]);
 }
 
 /// Fresh, held, and after a reset; numbers above 2 are refused.
@@ -203,6 +215,10 @@ fn fall_from_fresh(recorder: &mut Recorder) {
     for clocks in 6_039..=6_044 {
         recorder.make(&[New, Run(clocks), control(1, 0x01), Tick(40), Held(1)]);
     }
+    // A reset holds a level of 0, not one of 1.
+    for clocks in [6_042, 6_043] {
+        recorder.make(&[New, Run(clocks), Reset, Held(1), Tick(20), Held(1)]);
+    }
 }
 
 /// Voices whose gates go up and down a clock apart, around each clock of the top and of a match.
@@ -228,6 +244,19 @@ fn raise_and_drop_gates(recorder: &mut Recorder) {
             }
         }
     }
+    // Written on every clock from the top on, until past the next step.
+    for late in 0..4 {
+        recorder.make(&[New, control(2, 0x01)]);
+        recorder.clock_until(Pace::Run, 1_000, |chip| chip.envelopes[2].volume == 0xff);
+        recorder.make(&[Tick(late)]);
+        for _ in 0..8 {
+            recorder.make(&[control(2, 0x00), Tick(1), control(2, 0x01), Tick(1)]);
+        }
+    }
+    // High once more frees no hold; low and high again does, with no clock between.
+    recorder.make(&[New, control(2, 0x01), Run(9_000), control(2, 0x01), Held(2)]);
+    recorder.make(&[control(2, 0x00), control(2, 0x01), Held(2)]);
+    recorder.make(&[Write(0x14, 0xf0), Watch(0x1c, 30)]);
 }
 
 /// The sustain level comes to the level just before a step down, on it, and just after; and leaves
@@ -263,6 +292,21 @@ fn run_the_long_way_round(recorder: &mut Recorder) {
         ]);
         recorder.make(&[Run(32_760 - phase), Watch(0x1c, 60)]);
     }
+    // Gates that rise around 32766, and a reset on the way there.
+    recorder.make(&[New, Run(7), Write(0x06, 0x0f), Write(0x0d, 0x0f)]);
+    recorder.make(&[
+        Write(0x14, 0x0f),
+        Run(2),
+        Write(0x06, 0x00),
+        Write(0x0d, 0x00),
+    ]);
+    recorder.make(&[Write(0x14, 0x00), Run(32_763 - 9)]);
+    for number in 0..3 {
+        recorder.make(&[control(number, 0x01), Tick(1)]);
+    }
+    recorder.make(&[Tick(40)]);
+    recorder.make(&[New, Write(0x14, 0x0f), Run(20_000), Reset]);
+    recorder.make(&[Run(12_760), Watch(0x1c, 60)]);
 }
 
 /// A voice in release is left alone; the rest of the chip is not.
@@ -317,6 +361,16 @@ fn synchronise_and_ring(recorder: &mut Recorder, random: &mut Random) {
             recorder.make(&[Tick(380 + random.below(100))]);
         }
     }
+    // Test entered where a mark has just risen takes it back.
+    for number in 0..3 {
+        recorder.make(&[New]);
+        recorder.make(&voice(number, 0xf000, 0, 0, 0x20));
+        recorder.make(&voice((number + 1) % 3, 0xe000, 0, 0, 0x22));
+        recorder.clock_until(Pace::Tick, 60, |chip| {
+            aim::rises(&chip.oscillators[number], aim::BIT_23)
+        });
+        recorder.make(&[Tick(1), control(number, 0x28), Tick(9)]);
+    }
 }
 
 /// Saw and triangle, pulse and triangle, pulse and saw, all three: with feedback onto the phase,
@@ -342,6 +396,15 @@ fn combine_and_feed_back(recorder: &mut Recorder, random: &mut Random) {
             }
             recorder.make(&[Tick(300), Watch(0x1b, 100)]);
         }
+    }
+    // A phase whose top bit is cleared as it rises, which the next voice rings with; the third
+    // voice's code is high.
+    for number in 0..3 {
+        recorder.make(&[New]);
+        recorder.make(&voice(number, 0xf000, 0, 0, 0x30));
+        recorder.make(&voice((number + 1) % 3, 0x5000, 0, 0, 0x14));
+        recorder.make(&voice((number + 2) % 3, 0, 0, 0, 0x40));
+        recorder.make(&[Tick(200)]);
     }
 }
 
@@ -383,9 +446,13 @@ const ALL_STAGES: u32 = 420;
 
 /// A voice with noise alone, from a full register, some shifts on.
 fn fill_noise(recorder: &mut Recorder, number: usize, random: &mut Random) {
+    shift_noise(recorder, number, 60 + random.below(60));
+}
+
+fn shift_noise(recorder: &mut Recorder, number: usize, clocks: u32) {
     let base = 7 * number as u16;
     recorder.make(&[Reset, Write(base + 1, 0xf1), Write(base + 3, 0x03)]);
-    recorder.make(&[control(number, 0x80), Tick(60 + random.below(60))]);
+    recorder.make(&[control(number, 0x80), Tick(clocks)]);
 }
 
 /// Each selection before test against each after it.
@@ -415,6 +482,17 @@ fn enter_and_leave_test(recorder: &mut Recorder, random: &mut Random) {
             recorder.make(&[control(1, selection << 4 | TEST), Tick(clocks)]);
             recorder.make(&[control(1, 0x80), Tick(ALL_STAGES)]);
         }
+    }
+    // Pulse and noise stay where others leave, before all charge is lost.
+    for selection in 13..16u8 {
+        shift_noise(recorder, 1, 400);
+        recorder.make(&[control(1, selection << 4 | TEST), Tick(2)]);
+        recorder.make(&[
+            control(1, 0xc0),
+            Tick(1),
+            control(1, 0x80),
+            Tick(ALL_STAGES),
+        ]);
     }
     // OSC3 as other people's tests have it.
     recorder.make(&[New, control(2, 0x88), Tick(1), control(2, 0x90), Tick(1)]);
@@ -482,9 +560,9 @@ fn wait_long(recorder: &mut Recorder, random: &mut Random) {
     recorder.make(&voice(1, 0xffff, 0, 0, 0x80));
     recorder.make(&voice(2, 0x0123, 0x800, 0x008b, 0x41));
     recorder.make(&[Tick(777 + random.below(100)), control(2, 0x40)]);
-    // Stages pulled down by a joined triangle recover while the test lasts.
+    // Stages pulled down by a joined triangle recover while the test lasts, and show it.
     recorder.make(&[control(1, 0x90), Tick(100), control(1, 0x98), Tick(1)]);
-    recorder.make(&[control(0, 0x00)]);
+    recorder.make(&[control(1, 0x88), control(0, 0x00)]);
     let captured = recorder.clocks();
     recorder.make(&[Run(15 * LEAK_INTERVAL - 3), Tick(4)]);
     // The selection stays as it is, and so do the floating lines.
