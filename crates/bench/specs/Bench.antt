@@ -6,6 +6,7 @@ use Rattle.laws.specs.Times.{times}
 use Rattle.sid.specs.Sid.{fresh, written, ticks, codeOf, levelOf}
 use Rattle.sid.specs.declared.Mos6581.{Mos6581}
 
+-- codes and levels in one number
 unfoldable pub digest : ℕ → ℕ → ℕ → ℕ → ℕ → ℕ → ℕ
 digest c₀ c₁ c₂ l₀ l₁ l₂ = c₀ + c₁ * 4096 + c₂ * 16777216 + (l₀ + l₁ * 256 + l₂ * 65536) * 549755813888
 
@@ -13,6 +14,7 @@ unfoldable pub heard : Mos6581 → ℕ
 heard c =
     digest (codeOf (c .«voice_0»)) (codeOf (c .«voice_1»)) (codeOf (c .«voice_2»)) (levelOf (c .«voice_0»)) (levelOf (c .«voice_1»)) (levelOf (c .«voice_2»))
 
+-- one voice's registers written, its control last
 unfoldable pub tuned : Mos6581 → ℕ → ℕ → ℕ → Mos6581
 tuned c base frequency control =
     written
@@ -33,9 +35,11 @@ unfoldable pub summed : ℕ → Mos6581 → ℕ
 summed zero c = 0
 summed (suc n) c = (summed n c + heard (ticks (suc n) c)) % 2 ^ 64
 
+-- the next number of the seed
 unfoldable pub next : ℕ → ℕ
 next seed = (seed * 25173 + 13849) % 65536
 
+-- a value for a register: control bytes select one waveform at most
 unfoldable pub valueFor : ℕ → ℕ → ℕ
 valueFor register seed = cond (eqb (register % 7) 4) (seed / 256 % 16 + seed % 3 * 32) (seed / 256)
 

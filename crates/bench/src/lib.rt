@@ -84,7 +84,7 @@ pub extern "C" fn bench_idle(clocks: u64) -> u64
     ensures { λ r. ⌜ r ≡ Bench·heard (ticks clocks fresh) ⌝ }
 {
     let chip = Mos6581::new();
-    let after = chip.run(clocks);
+    let after = span::run(chip, clocks);
     heard(after)
 }
 
@@ -94,7 +94,7 @@ pub extern "C" fn bench_run(control: u8, clocks: u64) -> u64
     ensures { λ r. ⌜ r ≡ Bench·heard (ticks clocks (Bench·scene control)) ⌝ }
 {
     let chip = scene(control);
-    let after = chip.run(clocks);
+    let after = span::run(chip, clocks);
     heard(after)
 }
 
@@ -107,7 +107,7 @@ pub extern "C" fn bench_ticks(control: u8, clocks: u64) -> u64
     let mut sum: u64 = 0;
     let mut i: u64 = 0;
     while i < clocks {
-        let t = chip.tick();
+        let t = clock::tick(chip);
         chip = t.chip;
         let d = digest(
             t.code_0,
@@ -136,7 +136,7 @@ pub extern "C" fn bench_writes(seed: u16, writes: u64, apart: u64) -> u64
         let register = x % 21;
         let value = value_for(register, x);
         chip = chip.write(register, value);
-        chip = chip.run(apart);
+        chip = span::run(chip, apart);
         i += 1;
     }
     heard(chip)

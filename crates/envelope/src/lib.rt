@@ -1,7 +1,7 @@
 // The envelope generator (document 01, 'Envelope'; envelope.rs), by value: a method gives the envelope as the Rust's leaves it.
 ghost use mathlib.Core.Path.{_≡_};
 ghost use Rattle.envelope.specs.Sets.{setMotion, setRequestedMotion, setMotionDelay};
-ghost use Rattle.envelope.specs.Envelope.{periodOf, isRising, risingRateSelected, rateInForce, targetRefreshed, divisorCommitted, edge, advanced, gateSampled, motionTaken, motionCommitted, divisorFor, divisorSelected, steppedUp, steppedDown, stepped, amplitudeDue, amplitudeClocked, curveEnded, curveDue, curveClocked, curveCounted, matchUsed, matchConsumed, rateClocked, clocked, quiescent, freshGate, fresh, reset, attackDecaySet, sustainReleaseSet, gateSet};
+ghost use Rattle.envelope.specs.Envelope.{periodOf, isRising, risingRateSelected, rateInForce, targetRefreshed, divisorCommitted, edge, advanced, gateSampled, motionTaken, motionCommitted, divisorFor, divisorSelected, steppedUp, steppedDown, stepped, amplitudeDue, amplitudeClocked, curveEnded, curveDue, curveClocked, curveCounted, matchUsed, matchConsumed, levelRead, rateClocked, clocked, quiescent, freshGate, fresh, reset, attackDecaySet, sustainReleaseSet, gateSet};
 
 pub enum EnvelopeMotion {
     Rising,
@@ -251,6 +251,14 @@ impl Envelope {
             return false;
         }
         !self.matched_rate
+    }
+
+    // `clock` where its first test holds, so that a loop calls only its long way.
+    pub fn clock_quiet(mut self) -> Self
+        ensures { λ r. ⌜ r ≡ rateClocked (levelRead self) ⌝ }
+    {
+        self.readback = self.volume;
+        self.clock_rate_sequence()
     }
 
     fn commit_curve_divisor(mut self) -> Self

@@ -4,7 +4,7 @@ use Prim.Native.Nat.{ℕ, _%_, _≤_}
 use native.Mathlib.Nat.{le-refl, le-trans}
 use borrow.Author.Tests.{eqb-true}
 use lib.Bits.{bitAnd, and-le-l}
-use mathlib.Core.Bool.{Bool, true, false, cond, not, _&&_, true≢false}
+use mathlib.Core.Bool.{Bool, true, false, cond, _&&_, true≢false}
 use mathlib.Core.List.{List}
 use mathlib.Core.Path.{_≡_, refl, ap, sym, _∙_}
 use lib.Dec.{eqb}
@@ -56,18 +56,8 @@ unfolding pulledNoise
 pull-still g c latched cycle e = rw e refl
 
 pub code-plain : (c : Control) (t : Tone) (visible floats m : ℕ) → loadsLines c ≡ false → code c t visible floats m ≡ plainCode c t visible floats m
-unfolding loadsLines code plainCode waveformAt
-code-plain c t visible floats m e = go (eqb (selected c .raw) 9) (needsLoading (selected c .raw)) e
-  where
-    x : ℕ
-    x = ideal c t visible m
-
-    go : (nine load : Bool) → (not nine && load) ≡ false
-        → cond (isOff (selected c)) (floats % 4096) (cond nine x (cond load (loaded (selected c .raw) x) x) % 4096)
-        ≡ cond (isOff (selected c)) (floats % 4096) (x % 4096)
-    go true load h = refl
-    go false true h = absurd (true≢false h)
-    go false false h = refl
+unfolding code plainCode waveformAt
+code-plain c t visible floats m e = rw e refl
 
 -- lines joined from 0xfff fit twelve bits
 ideal-small : (c : Control) (t : Tone) (visible m : ℕ) → isOff (selected c) ≡ false → ideal c t visible m % 4096 ≡ ideal c t visible m
@@ -84,18 +74,16 @@ ideal-small c t visible m off = rw off (small _ (le-trans (join 8 visible _) (le
         go true = and-le-l lines wave
         go false = le-refl lines
 
-none-load : needsLoading 0 ≡ false
-unfolding needsLoading drivers
-none-load = refl
+unloaded : (c : Control) → selected c .raw ≡ 0 → loadsLines c ≡ false
+unfolding loadsLines needsLoading drivers
+unloaded c e = rw e refl
 
 pub code-loaded : (c : Control) (t : Tone) (visible floats m : ℕ) → loadsLines c ≡ true → code c t visible floats m ≡ loadedCode c (plainCode c t visible floats m)
-unfolding loadsLines code plainCode loadedCode waveformAt
-code-loaded c t visible floats m e = go (eqb (selected c .raw) 0) refl (eqb (selected c .raw) 9) (needsLoading (selected c .raw)) refl e
+unfolding code plainCode loadedCode waveformAt
+code-loaded c t visible floats m e = rw e (go (eqb (selected c .raw) 0) refl)
   where
-    go : (off : Bool) → eqb (selected c .raw) 0 ≡ off → (nine load : Bool) → needsLoading (selected c .raw) ≡ load → (not nine && load) ≡ true
-        → cond off (floats % 4096) (cond nine (ideal c t visible m) (cond load (loaded (selected c .raw) (ideal c t visible m)) (ideal c t visible m)) % 4096)
+    go : (off : Bool) → eqb (selected c .raw) 0 ≡ off
+        → cond off (floats % 4096) (loaded (selected c .raw) (ideal c t visible m) % 4096)
         ≡ loaded (selected c .raw) (cond off (floats % 4096) (ideal c t visible m % 4096)) % 4096
-    go off o true load l h = absurd (true≢false (sym h))
-    go off o false false l h = absurd (true≢false (sym h))
-    go true o false true l h = absurd (true≢false (sym l ∙ ap needsLoading (eqb-true _ _ o) ∙ none-load))
-    go false o false true l h = ap (λ (x : ℕ). loaded (selected c .raw) x % 4096) (sym (ideal-small c t visible m o))
+    go true o = absurd (true≢false (sym e ∙ unloaded c (eqb-true (selected c .raw) 0 o)))
+    go false o = ap (λ (x : ℕ). loaded (selected c .raw) x % 4096) (sym (ideal-small c t visible m o))

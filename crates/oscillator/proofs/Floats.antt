@@ -13,7 +13,8 @@ use Rattle.oscillator.specs.Oscillator.{clockedTone, clocked, comparedTo
 use Rattle.oscillator.specs.declared.Control.{Control}
 use Rattle.oscillator.specs.declared.Oscillator.{Oscillator}
 
-small : (x : ℕ) → x % 4096 % 4096 ≡ x % 4096
+-- twelve bits of twelve bits
+pub small : (x : ℕ) → x % 4096 % 4096 ≡ x % 4096
 small x = omega arith
 
 -- one tick of a voice

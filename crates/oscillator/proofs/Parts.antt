@@ -3,27 +3,29 @@
 use mathlib.Core.Path.{_≡_}
 use mathlib.Core.Bool.{Bool, true, false, cond}
 use Prim.Native.Nat.{ℕ, _%_}
-use native.Mathlib.Omega.{arith}
+use Rattle.waveforms.specs.Waveforms.{loaded}
 use Rattle.noise.specs.Noise.{stepped}
 use Rattle.noise.specs.declared.NoiseGenerator.{NoiseGenerator}
-use Rattle.floating.specs.Floating.{sampled}
 use Rattle.floating.specs.declared.FloatingBus.{FloatingBus}
+use Rattle.oscillator.proofs.Floats.{small}
 use Rattle.oscillator.specs.Selection.{isOff}
-use Rattle.oscillator.specs.Oscillator.{selected, rising, clockedTone, clocked, comparedTone, waveformAt, code, sampledBus, evaluated, fedBackTone, fedBack, latchedTone, latchedNoise, latchedCode, voiced, ticked}
+use Rattle.oscillator.specs.Oscillator.{selected, rising, clockedTone, clocked, comparedTone, ideal, loadsLines, loadedCode, waveformAt, code, sampledBus, evaluated, fedBackTone, fedBack, latchedTone, latchedNoise, latchedCode, voiced, ticked}
 use Rattle.oscillator.specs.declared.Control.{Control}
 use Rattle.oscillator.specs.declared.Tone.{Tone}
 use Rattle.oscillator.specs.declared.Oscillator.{Oscillator}
 
 code-small : (k : Control) (t : Tone) (visible floats modulator : ℕ) → code k t visible floats modulator % 4096 ≡ code k t visible floats modulator
-unfolding code waveformAt
-code-small k t visible floats modulator = go (isOff (selected k))
+unfolding code waveformAt loadedCode
+code-small k t visible floats modulator = go (isOff (selected k)) (loadsLines k)
   where
-    small : (x : ℕ) → x % 4096 % 4096 ≡ x % 4096
-    small x = omega arith
+    x : ℕ
+    x = ideal k t visible modulator
 
-    go : (off : Bool) → cond off (floats % 4096) (waveformAt k t visible modulator) % 4096 ≡ cond off (floats % 4096) (waveformAt k t visible modulator)
-    go true = small floats
-    go false = small _
+    go : (off load : Bool) → cond off (floats % 4096) (cond load (loaded (selected k .raw) x % 4096) (x % 4096)) % 4096
+        ≡ cond off (floats % 4096) (cond load (loaded (selected k .raw) x % 4096) (x % 4096))
+    go true load = small floats
+    go false true = small (loaded (selected k .raw) x)
+    go false false = small x
 
 abbrev pub voice : Control → Tone → NoiseGenerator → FloatingBus → Oscillator
 voice k t g b = record { control = k; tone = t; noise = g; bus = b }

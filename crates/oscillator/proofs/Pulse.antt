@@ -8,7 +8,7 @@ use lib.Bits.{and-comm, and-mask}
 use lib.Dec.{leb}
 use Rattle.waveforms.specs.Waveforms.{drivers, needsLoading, loaded}
 use Rattle.oscillator.proofs.Floats.{tick-control}
-use Rattle.oscillator.specs.Oscillator.{clockedTone, clocked, phase, pulse, comparedTone, ideal, waveformAt, code, evaluated, fedBackTone, fedBack, latchedTone, latchedCode, voiced, ticked}
+use Rattle.oscillator.specs.Oscillator.{clockedTone, clocked, phase, pulse, comparedTone, ideal, loadsLines, loadedCode, waveformAt, code, evaluated, fedBackTone, fedBack, latchedTone, latchedCode, voiced, ticked}
 use Rattle.oscillator.specs.Selection.{combined}
 use Rattle.oscillator.specs.declared.Control.{Control}
 use Rattle.oscillator.specs.declared.Oscillator.{Oscillator}
@@ -16,7 +16,7 @@ use Rattle.oscillator.specs.declared.Tone.{Tone}
 
 -- the code of pulse alone
 code-pulse : (c : Control) (t : Tone) (visible floats m : ℕ) → c .waveform % 16 ≡ 4 → code c t visible floats m ≡ pulse c t % 4096
-unfolding code waveformAt ideal combined loaded needsLoading drivers
+unfolding code waveformAt loadsLines loadedCode ideal combined loaded needsLoading drivers
 code-pulse c t visible floats m e = simp e (ap (λ (x : ℕ). x % 4096) (and-comm 0xfff (pulse c t) ∙ and-mask (pulse c t) 12) ∙ omega arith)
 
 module _ (o : Oscillator) (m : ℕ) where

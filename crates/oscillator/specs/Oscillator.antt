@@ -91,11 +91,14 @@ unfoldable pub ideal : Control → Tone → ℕ → ℕ → ℕ
 ideal c t visible modulator =
     combined (selected c) (triangle (trianglePhase c (phase t) modulator)) (phase t) (pulse c t) visible (t .«last_sample»)
 
-abbrev pub lines : WaveformSelect → ℕ → ℕ
-lines s ideal = cond (eqb (s .raw) 9) ideal (cond (needsLoading (s .raw)) (loaded (s .raw) ideal) ideal)
+unfoldable pub loadsLines : Control → Bool
+loadsLines c = not (eqb (selected c .raw) 9) && needsLoading (selected c .raw)
+
+unfoldable pub loadedCode : Control → ℕ → ℕ
+loadedCode c plain = loaded (selected c .raw) plain % 4096
 
 unfoldable pub waveformAt : Control → Tone → ℕ → ℕ → ℕ
-waveformAt c t visible modulator = lines (selected c) (ideal c t visible modulator) % 4096
+waveformAt c t visible modulator = cond (loadsLines c) (loadedCode c (ideal c t visible modulator)) (ideal c t visible modulator % 4096)
 
 unfoldable pub code : Control → Tone → ℕ → ℕ → ℕ → ℕ
 code c t visible floats modulator = cond (isOff (selected c)) (floats % 4096) (waveformAt c t visible modulator)
@@ -227,7 +230,7 @@ written o value = record {
   bus = writtenBus (o .bus) (o .control .waveform) (writtenControl (o .control) value .waveform) (o .tone);
 }
 
--- ---- the registers of frequency and pulse width (write_frequency_lo, …)
+-- ---- the registers of frequency and pulse width (write_frequency_lo, write_frequency_hi, write_pulse_width_lo, write_pulse_width_hi)
 
 abbrev pub tuned : Oscillator → ℕ → ℕ → Oscillator
 tuned o frequency width = record {
@@ -287,13 +290,7 @@ ticks (suc n) o modulators = ticked (ticks n o modulators) (modulators n)
 unfoldable pub sampleDue : Control → Floating → ℕ → Bool
 sampleDue c f cycle = isOff (selected c) && leaks f cycle
 
--- ---- the code in three: before lines are loaded, whether they are, and then
-
-unfoldable pub loadsLines : Control → Bool
-loadsLines c = not (eqb (selected c .raw) 9) && needsLoading (selected c .raw)
+-- ---- the code before lines are loaded
 
 unfoldable pub plainCode : Control → Tone → ℕ → ℕ → ℕ → ℕ
 plainCode c t visible floats modulator = cond (isOff (selected c)) (floats % 4096) (ideal c t visible modulator % 4096)
-
-unfoldable pub loadedCode : Control → ℕ → ℕ
-loadedCode c plain = loaded (selected c .raw) plain % 4096

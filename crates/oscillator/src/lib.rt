@@ -166,12 +166,8 @@ impl Control {
         ensures { λ r. ⌜ r ≡ waveformAt self tone visible «modulator_acc» ⌝ }
     {
         let ideal = self.ideal(tone, visible, modulator_acc);
-        let sel = self.selected();
-        if sel.raw == 0x09 {
-            return ideal & WAVEFORM_MASK;
-        }
-        if waveforms::needs_line_loading(sel.raw) {
-            return waveforms::settled_code(sel.raw, ideal) & WAVEFORM_MASK;
+        if self.loads_lines() {
+            return self.loaded_code(ideal);
         }
         ideal & WAVEFORM_MASK
     }
@@ -378,6 +374,13 @@ impl Tone {
         tone.last_sample = latched;
         tone.readback = latched;
         tone
+    }
+
+    // What a code leaves: the numbers after `evaluate_output`, `apply_combined_feedback` and `latch_output`.
+    pub fn sounded(self, control: Control, code: u16) -> Tone
+        ensures { λ r. ⌜ r ≡ latchedTone (fedBackTone (comparedTone self control) control code) code ⌝ }
+    {
+        self.compared(control).fed_back(control, code).latched(code)
     }
 
     // The phase in `write_control`.

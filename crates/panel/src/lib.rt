@@ -1,4 +1,4 @@
-// The panel that plays a score: a chip, and the clocks that it has run.
+// The panel that plays a score (document 01, 'Score and program'): a chip, and the clocks that it has run.
 use listing::Shown;
 use sid::Answer;
 use sid::Mos6581;
@@ -68,7 +68,7 @@ impl Panel {
         let clock = self.clock;
         if clock < stamp {
             let c = self.chip;
-            let chip = c.run((stamp - clock) as u64);
+            let chip = span::run(c, (stamp - clock) as u64);
             return Panel { chip, clock: stamp };
         }
         self

@@ -11,7 +11,6 @@ use Rattle.envelope.specs.Envelope.{fresh as Envelope·fresh, reset as Envelope
 use Rattle.oscillator.specs.Oscillator.{fresh as Oscillator·fresh, clocked as Oscillator·clocked, voiced as Oscillator·voiced, written as Oscillator·written, writtenFrequencyLo, writtenFrequencyHi, writtenPulseWidthLo, writtenPulseWidthHi, readOutput, synchronised as Oscillator·synchronised}
 use Rattle.sid.specs.declared.Voice.{Voice}
 use Rattle.sid.specs.declared.Mos6581.{Mos6581}
-use Rattle.sid.specs.declared.Ticked.{Ticked}
 use Rattle.sid.specs.declared.Read.{Read}
 use Rattle.sid.specs.declared.Answer.{Answer}
 use Rattle.sid.specs.declared.Answer.the-variants.{Code, Level, Held, Refused}
@@ -178,18 +177,6 @@ levelOf v = v .envelope .volume
 abbrev pub heldOf : Voice → Bool
 heldOf v = v .envelope .«floor_hold»
 
--- 'a tick that … gives three 12-bit codes and three levels'
-unfoldable pub outputs : Mos6581 → Ticked
-outputs c = record {
-  chip = c;
-  «code_0» = codeOf (c .«voice_0»);
-  «code_1» = codeOf (c .«voice_1»);
-  «code_2» = codeOf (c .«voice_2»);
-  «level_0» = levelOf (c .«voice_0»);
-  «level_1» = levelOf (c .«voice_1»);
-  «level_2» = levelOf (c .«voice_2»);
-}
-
 -- number and place of a refusal, or what the call gives
 pub data Told : Type 0 where
   code : ℕ → Told
@@ -214,6 +201,7 @@ pub data Call : Type 0 where
   write : ℕ → ℕ → Call
   read : ℕ → Call
   tick : Call
+  -- a reset
   clear : Call
   potX : ℕ → Call
   potY : ℕ → Call

@@ -1,5 +1,4 @@
 pub mod Couplings
-pub mod Filling
 pub mod Literals
 pub mod Loading
 pub mod Powers

@@ -1,18 +1,14 @@
--- Triangle and line loading: document 01, 'Oscillator', 'Line loading' and 'Numbers a caller can get back'; waveforms.rs.
+-- Triangle and line loading: document 01, 'Oscillator' and 'Line loading'; waveforms.rs.
 use Prim.Native.Nat.{ℕ, zero, suc, _+_, _-_, _*_, _/_, _%_, _^_}
-use mathlib.Core.Bool.{Bool, cond, _&&_}
+use mathlib.Core.Bool.{Bool, cond}
 use mathlib.Core.List.{List}
-use mathlib.Core.Option.{Option, none, some}
 use lib.Dec.{eqb, ltb}
 use lib.IntN.{pos}
-use lib.ListN.{length, getD}
+use lib.ListN.{getD}
 use lib.Ieee.{Float, nan, binary32, add, sub, mul, neg, lt, le, ofInt}
 use Rattle.laws.specs.Build.{build}
 use Rattle.laws.specs.Times.{times}
-use Rattle.refusals.specs.Refusals.{numberOf}
 use Rattle.waveforms.specs.declared.LineArray.{LineArray}
-use Rattle.waveforms.specs.declared.Filled.{Filled}
-use Rattle.waveforms.specs.declared.Filled.the-variants.{Done, Refused}
 use Rattle.waveforms.specs.Constants.{0·0, 1·0, 2·0, neighbourCoupling, directionalSkews, distanceDecays, retentionThresholds, pulseLoad, noiseLoad, triangleLoad, sawLoad, interactionGain, loadingScales, bySelection}
 
 -- 'Triangle doubles the phase, complemented above 0x7ff' (triangle_from_phase), of the low twelve bits
@@ -147,22 +143,3 @@ needsLoading s = ltb 1 (drivers s)
 -- apply_line_loading: a single waveform passes unchanged. 'The voice doesn't load' the lines of selection 9: it doesn't ask
 unfoldable pub loaded : ℕ → ℕ → ℕ
 loaded s value = cond (needsLoading s) (settled s value) (value % 4096)
-
--- ---- 'One selection fills a lent table of 4096 entries, entry i being the settled i for every i' (LineArray::generate)
-
--- not 'a selection above 15 or with under two bits'; 'selection 9 has a table'
-unfoldable pub hasTable : ℕ → Bool
-hasTable s = ltb s 16 && needsLoading s
-
--- number and place of the refusal, if any: 1 'table for a selection above 15 or with under two bits', 2 'table part not 4096 entries', both at 0; '1 comes before 2'
-unfoldable pub refusal : ℕ → ℕ → Option (ℕ × ℕ)
-refusal s size = cond (hasTable s) (cond (eqb size 4096) none (some (2, 0))) (some (1, 0))
-
--- number and place of each answer
-abbrev pub told : Filled → Option (ℕ × ℕ)
-told Done = none
-told (Refused r) = some (numberOf (r .why), r .place)
-
--- 'A refusal changes no state, table or output memory'
-unfoldable pub tableAfter : ℕ → List ℕ → List ℕ
-tableAfter s before = cond (hasTable s && eqb (length before) 4096) (build (settled s) 4096) before

@@ -15,14 +15,12 @@ use constants::COMBINED_WAVEFORM_TRIANGLE_LOAD;
 use offsets::OFFSET_COUPLINGS;
 use offsets::OFFSET_COUPLINGS_OF_3;
 use offsets::OFFSET_COUPLINGS_OF_5;
-use refusals::Refusal;
-use refusals::Refused;
 ghost use mathlib.Core.Path.{_≡_};
 ghost use Prim.Native.Nat.{_+_, _*_, _<_};
-ghost use lib.ListN.{length, getD};
+ghost use lib.ListN.{getD};
 ghost use lib.Ieee.{nan};
 ghost use Rattle.laws.specs.Build.{build};
-ghost use Rattle.waveforms.specs.Waveforms.{triangle, max, clamp, power, powi, coupled, coupling, loadIf, staticLoad, arrayOf, byOffset, drivers, interactionScale, chargeAt, pulled, discharge, drained, pass, retained, code, settledBy, needsLoading, loaded, refusal, told, tableAfter};
+ghost use Rattle.waveforms.specs.Waveforms.{triangle, max, clamp, power, powi, coupled, coupling, loadIf, staticLoad, arrayOf, byOffset, drivers, interactionScale, chargeAt, pulled, discharge, drained, pass, retained, code, settledBy, needsLoading, loaded};
 
 pub fn triangle_from_phase(phase: u16) -> u16
     ensures { λ r. ⌜ r ≡ triangle phase ⌝ }
@@ -317,38 +315,4 @@ pub fn settled_code(selection: u8, value: u16) -> u16
         return LineArray::ready(selection).settle(value);
     }
     value % 4096
-}
-
-pub enum Filled {
-    Done,
-    Refused(Refused),
-}
-
-// The Rust's `LineArray::generate`, into a lent table.
-pub fn fill(selection: u8, table: &mut [u16]) -> Filled
-    ensures { λ r. ⌜ (told r ≡ refusal selection (length (now (table .entry)))) × (now (table .exit) ≡ tableAfter selection (now (table .entry))) ⌝ }
-{
-    if 15 < selection {
-        return Filled::Refused(Refused {
-            why: Refusal::NoTable,
-            place: 0,
-        });
-    }
-    if drivers(selection) < 2 {
-        return Filled::Refused(Refused {
-            why: Refusal::NoTable,
-            place: 0,
-        });
-    }
-    if table.len() != 4096 {
-        return Filled::Refused(Refused {
-            why: Refusal::TableLength,
-            place: 0,
-        });
-    }
-    let line_array = LineArray::new(selection);
-    for value in 0..4096usize {
-        table[value] = line_array.settle(value as u16);
-    }
-    Filled::Done
 }

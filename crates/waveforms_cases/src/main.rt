@@ -1,7 +1,7 @@
 // Replays the oracle's lists data/waveforms (triangles, loaded codes, refusals, all settled tables) and data/settling (codes
 // at the edge of a line). They are made by tools/oracle: cargo run --release -- list NAME
 use cases::Tally;
-use waveforms::Filled;
+use tables::Filled;
 use waveforms::LineArray;
 
 // No settled code is as large, so that an entry which a call has left alone is known.
@@ -44,7 +44,7 @@ fn number(gave: Filled) -> u8 {
 
 fn fills(selection: u8, table: &mut [u16], answer: u16) -> bool {
     prepare(table);
-    let gave = number(waveforms::fill(selection, table));
+    let gave = number(tables::fill(selection, table));
     if gave as u16 != answer {
         return false;
     }

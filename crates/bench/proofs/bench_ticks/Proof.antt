@@ -3,7 +3,8 @@ use Prim.Native.Nat.{_-_, _≤_}
 use mathlib.Core.Path.{_≡_, refl}
 use Rattle.laws.specs.Times.{times}
 use Rattle.laws.proofs.Loops.{ended}
-use Rattle.sid.specs.Sid.{ticks, outputs}
+use Rattle.clock.specs.Clock.{outputs}
+use Rattle.sid.specs.Sid.{ticks}
 use Rattle.bench.specs.Bench.{heard, scene, summed}
 use borrow.Author.Needs.{needs}
 use Rattle.bench.proofs.bench_ticks.Statement.{statement}

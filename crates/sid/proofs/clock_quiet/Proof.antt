@@ -1,9 +1,0 @@
-use borrow.Author.Needs.{needs}
-use Rattle.sid.proofs.clock_quiet.Statement.{statement}
-use Rattle.sid.proofs.clock_quiet.Tie as tie
-
-returns : tie.Need-returns
-returns c = c .clock-rate-sequence .ensures
-
-pub clock-quiet-spec : {M : Type 1} → statement M
-clock-quiet-spec = tie.close (tie.spec (λ c κs. search needs) returns)
