@@ -1,4 +1,4 @@
-// The chip without filter and converter (document 01; sid.rs): register decode, tick order, reads, resets.
+// The chip without filter and converter (document 01; sid.rs): register decode, reads, resets, synchronisation. Crates `clock` and `span` tick it.
 use bus::InternalDataBus;
 use envelope::Envelope;
 use oscillator::Control;
