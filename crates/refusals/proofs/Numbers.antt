@@ -1,11 +1,12 @@
--- A refusal's number tells which it is: a promise of the number determines the refusal. Assumes nothing.
+-- Number and place tell which refusal it is: a promise of them determines what a refused call answers. Assumes nothing.
 use Prim.Native.Nat.{ℕ, _-_}
-use mathlib.Core.Path.{_≡_, refl, ap, sym, _∙_}
+use mathlib.Core.Path.{_≡_, refl, ap, ap₂, sym, _∙_}
 use mathlib.Core.List.{[], _∷_}
 use lib.ListN.{getD}
 use Rattle.refusals.specs.declared.Refusal.{Refusal}
 use Rattle.refusals.specs.declared.Refusal.the-variants.{NoTable, TableLength, VoiceNumber, ScoreLength, FieldCut, UnknownTag, FieldLength, StampTooLate, StampFalls, AfterEnd, NoEnd}
-use Rattle.refusals.specs.Refusals.{numberOf}
+use Rattle.refusals.specs.declared.Refused.{Refused}
+use Rattle.refusals.specs.Refusals.{numberOf, refused, Told, told}
 
 named : ℕ → Refusal
 named n =
@@ -27,3 +28,6 @@ named-number NoEnd = refl
 
 pub number-tells : (a b : Refusal) → numberOf a ≡ numberOf b → a ≡ b
 number-tells a b e = sym (named-number a) ∙ ap named e ∙ named-number b
+
+pub told-tells : (a b : Refused) → told a ≡ told b → a ≡ b
+told-tells a b e = ap₂ refused (number-tells (a .why) (b .why) (ap (λ (t : Told). t .number) e)) (ap (λ (t : Told). t .place) e)

@@ -36,5 +36,8 @@ pub record Told : Type 0 where
   pub number : ℕ
   pub place : ℕ
 
+abbrev pub numbered : ℕ → ℕ → Told
+numbered number place = record { number = number; place = place }
+
 abbrev pub told : Refused → Told
-told r = record { number = numberOf (r .why); place = r .place }
+told r = numbered (numberOf (r .why)) (r .place)
