@@ -9,6 +9,7 @@ use Rattle.envelope.specs.declared.Envelope.{Envelope}
 use Rattle.envelope.proofs.Readback.{clock-reads}
 use Rattle.oscillator.specs.Oscillator.{fresh as Oscillator·fresh, latchedTone, latchedCode, resetPhase, synchronised as Oscillator·synchronised, voiced as Oscillator·voiced}
 use Rattle.sid.specs.Sid.{register, fresh, resetVoice, reset, readDriven, readAt, clockedVoice, voiced, synchronisedIf, ticked, codeOf, levelOf, Call, write, read, tick, clear, potX, potY, called, after}
+use Rattle.sid.proofs.Calls.{after-join}
 use Rattle.sid.specs.declared.Voice.{Voice}
 use Rattle.sid.specs.declared.Mos6581.{Mos6581}
 use Rattle.calls.specs.Calls.{Which, third, of, Each, none, next, idle, Last, idles, ticks, clears, Latched}
@@ -29,12 +30,6 @@ last-next (potY value) (idles r) = idles (next refl r)
 pub last-of : (calls : List Call) → Last calls
 last-of [] = idles none
 last-of (call ∷ calls) = last-next call (last-of calls)
-
--- calls, then more
-after-join : (calls more : List Call) (c : Mos6581) → after (calls ++ more) c ≡ after more (after calls c)
-unfolding after
-after-join [] more c = refl
-after-join (call ∷ calls) more c = after-join calls more (called call c)
 
 -- calls without tick and reset leave what a voice shows
 idle-face : (w : Which) (calls : List Call) (c : Mos6581) → Each idle calls → face (of w (after calls c)) ≡ face (of w c)

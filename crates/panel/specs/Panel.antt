@@ -35,13 +35,13 @@ abbrev pub codeTold : Told → ℕ
 codeTold (code x) = x
 codeTold (level x) = 0
 codeTold (held x) = 0
-codeTold (refused number place) = 0
+codeTold (refused t) = 0
 
 abbrev pub levelTold : Told → ℕ
 levelTold (code x) = 0
 levelTold (level x) = x
 levelTold (held x) = 0
-levelTold (refused number place) = 0
+levelTold (refused t) = 0
 
 -- what the chip's calls tell of the voice that they name
 unfoldable pub shownTold : Mos6581 → ℕ → Shown

@@ -30,7 +30,7 @@ fn code_told(a: Answer) -> u16
         Answer::Code { code } => code,
         Answer::Level { level: _ } => 0,
         Answer::Held { held: _ } => 0,
-        Answer::Refused { why: _, place: _ } => 0,
+        Answer::Refused(_) => 0,
     }
 }
 
@@ -41,7 +41,7 @@ fn level_told(a: Answer) -> u8
         Answer::Code { code: _ } => 0,
         Answer::Level { level } => level,
         Answer::Held { held: _ } => 0,
-        Answer::Refused { why: _, place: _ } => 0,
+        Answer::Refused(_) => 0,
     }
 }
 

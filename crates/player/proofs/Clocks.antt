@@ -1,5 +1,5 @@
 -- A field of an accepted score, its end too, meets a fresh chip after exactly as many ticks as its stamp says, and the panel counts them. Assumes nothing.
-use Prim.Native.Nat.{ℕ, zero, suc, _+_, _-_, _≤_}
+use Prim.Native.Nat.{ℕ, _+_, _-_, _≤_}
 use native.Mathlib.Omega.{arith}
 use mathlib.Core.Bool.{true}
 use mathlib.Core.List.{List, [], _∷_, _++_, append-nil, append-assoc}
@@ -8,7 +8,6 @@ use lib.Dec.{ltb}
 use lib.ListN.{length, length-append}
 use borrow.Author.Tests.{ltb-false}
 use Rattle.laws.proofs.Cond.{by-test}
-use Rattle.laws.proofs.Times.{times-none, times-first}
 use Rattle.listing.specs.Text.{endLine}
 use Rattle.panel.specs.declared.Panel.{Panel}
 use Rattle.panel.specs.Panel.{fresh, ranTo, readOf}
@@ -21,20 +20,10 @@ use Rattle.score.specs.Fields.{stampOf, isEnd}
 use Rattle.score.specs.Scores.{good, scoreOf, clocksOf as Scores·clocksOf, Chain, ends, goes}
 use Rattle.score.specs.Stamps.{admit}
 use Rattle.score.proofs.Chains.{score-chain}
-use Rattle.sid.specs.declared.Mos6581.{Mos6581}
-use Rattle.sid.specs.Sid.{fresh as Sid·fresh, ticked, ticks, Call, called, after, clocksOf}
-use Rattle.player.specs.Calls.{ticksThen, callThen, callsTo}
+use Rattle.sid.specs.Sid.{fresh as Sid·fresh, Call, called, after, clocksOf}
+use Rattle.sid.proofs.Calls.{after-ticks, count-ticks}
+use Rattle.player.specs.Calls.{callThen, callsTo}
 use Rattle.player.specs.Listing.{lineOf, doneBy, atStamp, play, played, listing}
-
-after-ticks : (n : ℕ) (calls : List Call) (c : Mos6581) → after (ticksThen n calls) c ≡ after calls (ticks n c)
-unfolding ticksThen after called
-after-ticks zero calls c = ap (after calls) (sym (times-none ticked c))
-after-ticks (suc n) calls c = after-ticks n calls (ticked c) ∙ ap (after calls) (sym (times-first ticked n c))
-
-count-ticks : (n : ℕ) (calls : List Call) → clocksOf (ticksThen n calls) ≡ n + clocksOf calls
-unfolding ticksThen clocksOf
-count-ticks zero calls = omega arith
-count-ticks (suc n) calls = omega (arith, count-ticks n calls)
 
 after-call : (f : Field) (calls : List Call) (p : Panel) → after (callThen f calls) (p .chip) ≡ after calls (doneBy f p .chip)
 unfolding after called doneBy readOf

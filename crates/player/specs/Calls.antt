@@ -1,15 +1,10 @@
 -- The calls that a score makes of its chip: document 01, 'Stamp n means after exactly n clocks of a fresh chip'.
-use Prim.Native.Nat.{ℕ, zero, suc, _+_, _-_}
+use Prim.Native.Nat.{ℕ, _+_, _-_}
 use mathlib.Core.List.{List, [], _∷_}
 use Rattle.score.specs.declared.Field.{Field}
 use Rattle.score.specs.declared.Field.the-variants.{Write, Read, Levels, End}
 use Rattle.score.specs.Fields.{stampOf}
-use Rattle.sid.specs.Sid.{Call, write, read, tick}
-
--- n ticks, and then other calls
-unfoldable pub ticksThen : ℕ → List Call → List Call
-ticksThen zero calls = calls
-ticksThen (suc n) calls = tick ∷ ticksThen n calls
+use Rattle.sid.specs.Sid.{Call, write, read, ticksThen}
 
 -- a field's own call, and then others
 abbrev pub callThen : Field → List Call → List Call

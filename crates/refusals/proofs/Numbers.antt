@@ -1,6 +1,6 @@
 -- Number and place tell which refusal it is: a promise of them determines what a refused call answers. Assumes nothing.
 use Prim.Native.Nat.{ℕ, _-_}
-use mathlib.Core.Path.{_≡_, refl, ap, ap₂, sym, _∙_}
+use mathlib.Core.Path.{_≡_, refl, ap, sym, _∙_}
 use mathlib.Core.List.{[], _∷_}
 use lib.ListN.{getD}
 use Rattle.refusals.specs.declared.Refusal.{Refusal}
@@ -29,5 +29,12 @@ named-number NoEnd = refl
 pub number-tells : (a b : Refusal) → numberOf a ≡ numberOf b → a ≡ b
 number-tells a b e = sym (named-number a) ∙ ap named e ∙ named-number b
 
+pub untold : Told → Refused
+untold t = refused (named (t .number)) (t .place)
+
+pub untold-told : (r : Refused) → untold (told r) ≡ r
+unfolding untold
+untold-told r = ap (λ (why : Refusal). refused why (r .place)) (named-number (r .why))
+
 pub told-tells : (a b : Refused) → told a ≡ told b → a ≡ b
-told-tells a b e = ap₂ refused (number-tells (a .why) (b .why) (ap (λ (t : Told). t .number) e)) (ap (λ (t : Told). t .place) e)
+told-tells a b e = sym (untold-told a) ∙ ap untold e ∙ untold-told b

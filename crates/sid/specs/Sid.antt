@@ -4,7 +4,7 @@ use mathlib.Core.Bool.{Bool, cond, not, _&&_}
 use mathlib.Core.List.{List, [], _∷_}
 use lib.Dec.{eqb}
 use Rattle.laws.specs.Times.{times}
-use Rattle.refusals.specs.Refusals.{numberOf}
+use Rattle.refusals.specs.Refusals.{numbered, Told as Refusals·Told, told as Refusals·told}
 use Rattle.bus.specs.Bus.{fresh as Bus·fresh, driven, clocked as Bus·clocked}
 use Rattle.bus.specs.declared.InternalDataBus.{InternalDataBus}
 use Rattle.envelope.specs.Envelope.{fresh as Envelope·fresh, reset as Envelope·reset, clocked as Envelope·clocked, attackDecaySet, sustainReleaseSet, gateSet}
@@ -177,23 +177,23 @@ levelOf v = v .envelope .volume
 abbrev pub heldOf : Voice → Bool
 heldOf v = v .envelope .«floor_hold»
 
--- number and place of a refusal, or what the call gives
+-- what such a call gives, or number and place of its refusal
 pub data Told : Type 0 where
   code : ℕ → Told
   level : ℕ → Told
   held : Bool → Told
-  refused : ℕ → ℕ → Told
+  refused : Refusals·Told → Told
 
 abbrev pub told : Answer → Told
 told (Code x) = code x
 told (Level x) = level x
 told (Held x) = held x
-told (Refused why place) = refused (numberOf why) place
+told (Refused r) = refused (Refusals·told r)
 
 -- 3, 'voice number above 2', at 0
 unfoldable pub named : Mos6581 → ℕ → (Voice → Told) → Told
 named c n give =
-    cond (eqb n 0) (give (c .«voice_0»)) (cond (eqb n 1) (give (c .«voice_1»)) (cond (eqb n 2) (give (c .«voice_2»)) (refused 3 0)))
+    cond (eqb n 0) (give (c .«voice_0»)) (cond (eqb n 1) (give (c .«voice_1»)) (cond (eqb n 2) (give (c .«voice_2»)) (refused (numbered 3 0))))
 
 -- ---- any run of calls
 
@@ -219,7 +219,12 @@ unfoldable pub after : List Call → Mos6581 → Mos6581
 after [] c = c
 after (call ∷ calls) c = after calls (called call c)
 
--- the ticks among them
+-- n ticks, and then other calls
+unfoldable pub ticksThen : ℕ → List Call → List Call
+ticksThen zero calls = calls
+ticksThen (suc n) calls = tick ∷ ticksThen n calls
+
+-- the ticks among calls
 unfoldable pub clocksOf : List Call → ℕ
 clocksOf [] = zero
 clocksOf (tick ∷ calls) = suc (clocksOf calls)

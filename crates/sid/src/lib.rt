@@ -5,6 +5,7 @@ use oscillator::Control;
 use oscillator::Oscillator;
 use oscillator::Tone;
 use refusals::Refusal;
+use refusals::Refused;
 ghost use mathlib.Core.Path.{_≡_};
 ghost use mathlib.Core.Bool.{cond};
 ghost use Rattle.oscillator.specs.Oscillator.{resetPhase};
@@ -34,7 +35,7 @@ pub enum Answer {
     Code { code: u16 },
     Level { level: u8 },
     Held { held: bool },
-    Refused { why: Refusal, place: usize },
+    Refused(Refused),
 }
 
 const POT_RESET_VALUE: u8 = 0xff;
@@ -309,10 +310,10 @@ impl Mos6581 {
             0 => Answer::Code { code: v.code() },
             1 => Answer::Code { code: w.code() },
             2 => Answer::Code { code: x.code() },
-            _ => Answer::Refused {
+            _ => Answer::Refused(Refused {
                 why: Refusal::VoiceNumber,
                 place: 0,
-            },
+            }),
         }
     }
 
@@ -326,10 +327,10 @@ impl Mos6581 {
             0 => Answer::Level { level: v.level() },
             1 => Answer::Level { level: w.level() },
             2 => Answer::Level { level: x.level() },
-            _ => Answer::Refused {
+            _ => Answer::Refused(Refused {
                 why: Refusal::VoiceNumber,
                 place: 0,
-            },
+            }),
         }
     }
 
@@ -343,10 +344,10 @@ impl Mos6581 {
             0 => Answer::Held { held: v.held() },
             1 => Answer::Held { held: w.held() },
             2 => Answer::Held { held: x.held() },
-            _ => Answer::Refused {
+            _ => Answer::Refused(Refused {
                 why: Refusal::VoiceNumber,
                 place: 0,
-            },
+            }),
         }
     }
 }

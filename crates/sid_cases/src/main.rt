@@ -70,7 +70,7 @@ fn told(answer: Answer) -> u64 {
         Answer::Code { code } => code as u64,
         Answer::Level { level } => level as u64,
         Answer::Held { held } => held as u64,
-        Answer::Refused { why, place } => ((refusals::number(why) as u64) << 32) | (place as u64),
+        Answer::Refused(r) => ((refusals::number(r.why) as u64) << 32) | (r.place as u64),
     }
 }
 

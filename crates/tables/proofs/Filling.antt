@@ -1,5 +1,5 @@
 -- `refusal` and `tableAfter`, one law for each way that a fill goes; and any two answers with the same number and place are equal. Assumes nothing.
-use mathlib.Core.Path.{_≡_, refl, ap, ap₂}
+use mathlib.Core.Path.{_≡_, refl, ap}
 use mathlib.Core.Bool.{true, false}
 use mathlib.Core.List.{List}
 use mathlib.Core.Option.{none, some}
@@ -8,25 +8,24 @@ use native.Mathlib.Omega.{arith}
 use lib.ListN.{length}
 use borrow.Author.Tests.{eq-eqb, ne-eqb, lt-ltb, le-ltb}
 use Rattle.laws.specs.Build.{build}
-use Rattle.refusals.specs.Refusals.{numberOf, refused}
-use Rattle.refusals.specs.declared.Refusal.{Refusal}
-use Rattle.refusals.proofs.Numbers.{number-tells}
+use Rattle.refusals.specs.Refusals.{numbered}
+use Rattle.refusals.proofs.Numbers.{told-tells as Refusals·told-tells}
 use Rattle.tables.specs.declared.Filled.{Filled}
 use Rattle.tables.specs.declared.Filled.the-variants.{Done, Refused}
 use Rattle.tables.specs.Tables.{hasTable, refusal, told, tableAfter}
 use Rattle.waveforms.specs.Waveforms.{settled, needsLoading}
 
 module _ (s : ℕ) (t : List ℕ) where
-  no-table : hasTable s ≡ false → (some (1, 0) ≡ refusal s (length t)) × (t ≡ tableAfter s t)
+  no-table : hasTable s ≡ false → (some (numbered 1 0) ≡ refusal s (length t)) × (t ≡ tableAfter s t)
   unfolding refusal tableAfter
   no-table e = (rw e, rw e)
 
-  pub above-15 : 15 < s → (some (1, 0) ≡ refusal s (length t)) × (t ≡ tableAfter s t)
+  pub above-15 : 15 < s → (some (numbered 1 0) ≡ refusal s (length t)) × (t ≡ tableAfter s t)
   unfolding hasTable
   above-15 h = no-table (simp (le-ltb s 16 (omega arith)))
 
   module _ (h : s < 16) where
-    pub under-two : needsLoading s ≡ false → (some (1, 0) ≡ refusal s (length t)) × (t ≡ tableAfter s t)
+    pub under-two : needsLoading s ≡ false → (some (numbered 1 0) ≡ refusal s (length t)) × (t ≡ tableAfter s t)
     unfolding hasTable
     under-two g = no-table (simp (lt-ltb s 16 h, g))
 
@@ -35,7 +34,7 @@ module _ (s : ℕ) (t : List ℕ) where
       unfolding hasTable
       has-table = simp (lt-ltb s 16 h, g)
 
-      pub wrong-length : (length t ≡ 4096 → ⊥) → (some (2, 0) ≡ refusal s (length t)) × (t ≡ tableAfter s t)
+      pub wrong-length : (length t ≡ 4096 → ⊥) → (some (numbered 2 0) ≡ refusal s (length t)) × (t ≡ tableAfter s t)
       unfolding refusal tableAfter
       wrong-length n = (rw (has-table, ne-eqb (length t) 4096 n), rw (has-table, ne-eqb (length t) 4096 n))
 
@@ -48,6 +47,4 @@ pub told-tells : (a b : Filled) → told a ≡ told b → a ≡ b
 told-tells Done Done e = refl
 told-tells Done (Refused s) e = let z : _≡_ {A = ℕ} 0 1 = cc in absurd (omega arith)
 told-tells (Refused r) Done e = let z : _≡_ {A = ℕ} 0 1 = cc in absurd (omega arith)
-told-tells (Refused r) (Refused s) e =
-    let i : _≡_ {A = ℕ × ℕ} (numberOf (r .why), r .place) (numberOf (s .why), s .place) = cc in
-    ap₂ (λ (w : Refusal) (p : ℕ). Refused (refused w p)) (number-tells (r .why) (s .why) (ap (λ (x : ℕ × ℕ). x .0) i)) (ap (λ (x : ℕ × ℕ). x .1) i)
+told-tells (Refused r) (Refused s) e = ap Refused (Refusals·told-tells r s (cc))

@@ -6,7 +6,7 @@ use Prim.Native.Nat.{ℕ}
 use lib.Dec.{eqb, ltb}
 use lib.ListN.{length}
 use Rattle.laws.specs.Build.{build}
-use Rattle.refusals.specs.Refusals.{numberOf}
+use Rattle.refusals.specs.Refusals.{Told, numbered, told as Refusals·told}
 use Rattle.tables.specs.declared.Filled.{Filled}
 use Rattle.tables.specs.declared.Filled.the-variants.{Done, Refused}
 use Rattle.waveforms.specs.Waveforms.{settled, needsLoading}
@@ -18,13 +18,13 @@ unfoldable pub hasTable : ℕ → Bool
 hasTable s = ltb s 16 && needsLoading s
 
 -- number and place of the refusal, if any: 1 'table for a selection above 15 or with under two bits', 2 'table part not 4096 entries', both at 0; '1 comes before 2'
-unfoldable pub refusal : ℕ → ℕ → Option (ℕ × ℕ)
-refusal s size = cond (hasTable s) (cond (eqb size 4096) none (some (2, 0))) (some (1, 0))
+unfoldable pub refusal : ℕ → ℕ → Option Told
+refusal s size = cond (hasTable s) (cond (eqb size 4096) none (some (numbered 2 0))) (some (numbered 1 0))
 
 -- number and place of each answer
-abbrev pub told : Filled → Option (ℕ × ℕ)
+abbrev pub told : Filled → Option Told
 told Done = none
-told (Refused r) = some (numberOf (r .why), r .place)
+told (Refused r) = some (Refusals·told r)
 
 -- 'A refusal changes no state, table or output memory'
 unfoldable pub tableAfter : ℕ → List ℕ → List ℕ
