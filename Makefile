@@ -30,8 +30,8 @@ lists:
 # Not in the gate: the programs in target/bin (make test) against the original at length, by the seed.
 compare:
 	cd tools/oracle && cargo build --release
-	tools/oracle/target/release/oracle compare-calls target/bin/sid_cases 1000 100000 1
-	tools/oracle/target/release/oracle compare-scores target/bin/replay 5000 1
+	tools/oracle/target/release/oracle compare-calls 1000 100000 1 sh tools/run.sh target/bin/sid_cases
+	tools/oracle/target/release/oracle compare-scores 5000 1 sh tools/run.sh target/bin/replay
 
 # This chip against the original, scene by scene (docs/PERFORMANCE.md). Needs cargo, and the original as for the lists.
 bench:

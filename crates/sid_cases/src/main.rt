@@ -70,7 +70,10 @@ fn told(answer: Answer) -> u64 {
         Answer::Code { code } => code as u64,
         Answer::Level { level } => level as u64,
         Answer::Held { held } => held as u64,
-        Answer::Refused(r) => ((refusals::number(r.why) as u64) << 32) | (r.place as u64),
+        Answer::Refused(r) => {
+            let why = r.why;
+            ((refusals::number(why) as u64) << 32) | (r.place as u64)
+        }
     }
 }
 

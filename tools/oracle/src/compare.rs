@@ -12,7 +12,7 @@ use crate::score;
 use crate::sid::sid::Mos6581;
 
 /// Feeds `sid_cases` the aimed calls of so many seeds, each of so many ticks or more.
-pub fn calls(program: &OsStr, seeds: u64, ticks: u64, first: u64) -> io::Result<bool> {
+pub fn calls(program: &[&OsStr], seeds: u64, ticks: u64, first: u64) -> io::Result<bool> {
     let mut recorder = Recorder::new();
     let mut records = 0;
     let mut ticked = 0;
@@ -44,7 +44,7 @@ pub fn calls(program: &OsStr, seeds: u64, ticks: u64, first: u64) -> io::Result<
 }
 
 /// Feeds `replay` so many scores, of seeds from the first on.
-pub fn scores(program: &OsStr, count: u64, first: u64) -> io::Result<bool> {
+pub fn scores(program: &[&OsStr], count: u64, first: u64) -> io::Result<bool> {
     let mut chip = Mos6581::new();
     let mut refused = 0;
     let mut clocks = 0;
@@ -63,9 +63,10 @@ pub fn scores(program: &OsStr, count: u64, first: u64) -> io::Result<bool> {
     Ok(true)
 }
 
-/// What a program writes for an input.
-fn answer(program: &OsStr, input: &[u8]) -> io::Result<Vec<u8>> {
-    let mut child = Command::new(program)
+/// What a program, with its arguments, writes for an input.
+fn answer(program: &[&OsStr], input: &[u8]) -> io::Result<Vec<u8>> {
+    let mut child = Command::new(program[0])
+        .args(&program[1..])
         .stdin(Stdio::piped())
         .stdout(Stdio::piped())
         .spawn()?;

@@ -25,8 +25,8 @@ fn main() -> ExitCode {
     let arguments: Vec<&OsStr> = arguments.iter().map(OsString::as_os_str).collect();
     let Some(done) = obey(&arguments) else {
         eprintln!("usage: oracle list NAME, where NAME is {}", lists::names());
-        eprintln!("       oracle compare-calls SID_CASES SEEDS TICKS FIRST_SEED");
-        eprintln!("       oracle compare-scores REPLAY SCORES FIRST_SEED");
+        eprintln!("       oracle compare-calls SEEDS TICKS FIRST_SEED SID_CASES...");
+        eprintln!("       oracle compare-scores SCORES FIRST_SEED REPLAY...");
         eprintln!("       oracle calls SEED TICKS");
         eprintln!("       oracle score SEED");
         eprintln!("       oracle listing < SCORE");
@@ -47,10 +47,10 @@ fn obey(arguments: &[&OsStr]) -> Option<io::Result<bool>> {
     let (command, operands) = arguments.split_first()?;
     Some(match (command.to_str()?, operands) {
         ("list", &[name]) => write(&lists::named(name)?()),
-        ("compare-calls", &[program, seeds, ticks, first]) => {
+        ("compare-calls", [seeds, ticks, first, program @ ..]) if !program.is_empty() => {
             compare::calls(program, number(seeds)?, number(ticks)?, number(first)?)
         }
-        ("compare-scores", &[program, count, first]) => {
+        ("compare-scores", [count, first, program @ ..]) if !program.is_empty() => {
             compare::scores(program, number(count)?, number(first)?)
         }
         ("calls", &[seed, ticks]) => {
