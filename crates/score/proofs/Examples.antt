@@ -1,14 +1,12 @@
--- Document 01's worked score, and its numbers 4 to 11, each with a small score that it is given for. Assumes nothing.
-use Prim.Native.Nat.{ℕ, _<_}
-use mathlib.Core.List.{List, [], _∷_, _++_}
-use mathlib.Core.Path.{_≡_, refl, ap}
-use lib.ListN.{length}
+-- Document 01's worked score, and its numbers 5 to 11, each with a small score that it is given for. Assumes nothing.
+use mathlib.Core.List.{[], _∷_, _++_}
+use mathlib.Core.Path.{_≡_, refl}
+use Rattle.refusals.specs.Refusals.{numbered}
 use Rattle.words.specs.Words.{little, numberAt}
 use Rattle.score.specs.declared.Field.the-variants.{Write, Read, Levels, End}
 use Rattle.score.specs.Fields.{lenOf, valueOf, fieldAt}
 use Rattle.score.specs.Scores.{good, walk, scoreOf, checked, accepts, refuses, verdict}
 use Rattle.score.specs.Stamps.{admit}
-use Rattle.score.proofs.Walk.{too-long}
 
 pub worked
     : scoreOf (
@@ -21,19 +19,16 @@ pub worked
 unfolding scoreOf walk fieldAt lenOf valueOf admit numberAt little
 worked = refl
 
-pub number-4 : (s : List ℕ) → 65536 < length s → verdict (checked s) ≡ refuses 4 0
-number-4 s h = ap verdict (too-long s h)
-
 pub numbers
-    : (verdict (checked []) ≡ refuses 11 0)
-    × (verdict (checked (0x7f ∷ 0x04 ∷ [])) ≡ refuses 5 0)
-    × (verdict (checked (0x00 ∷ 0x04 ∷ 0x00 ∷ [])) ≡ refuses 6 0)
-    × (verdict (checked (0x7f ∷ 0x05 ∷ 0x00 ∷ [])) ≡ refuses 7 0)
-    × (verdict (checked (0x7f ∷ 0x04 ∷ 0x00 ∷ 0x00 ∷ 0x00 ∷ 0x00 ∷ [])) ≡ refuses 5 0)
+    : (verdict (checked []) ≡ refuses (numbered 11 0))
+    × (verdict (checked (0x7f ∷ 0x04 ∷ [])) ≡ refuses (numbered 5 0))
+    × (verdict (checked (0x00 ∷ 0x04 ∷ 0x00 ∷ [])) ≡ refuses (numbered 6 0))
+    × (verdict (checked (0x7f ∷ 0x05 ∷ 0x00 ∷ [])) ≡ refuses (numbered 7 0))
+    × (verdict (checked (0x7f ∷ 0x04 ∷ 0x00 ∷ 0x00 ∷ 0x00 ∷ 0x00 ∷ [])) ≡ refuses (numbered 5 0))
     × (verdict (checked (0x7f ∷ 0x04 ∷ 0x00 ∷ 0x00 ∷ 0xe1 ∷ 0xf5 ∷ 0x05 ∷ [])) ≡ accepts 100000000)
-    × (verdict (checked (0x7f ∷ 0x04 ∷ 0x00 ∷ 0x01 ∷ 0xe1 ∷ 0xf5 ∷ 0x05 ∷ [])) ≡ refuses 8 0)
-    × (verdict (checked (0x03 ∷ 0x04 ∷ 0x00 ∷ 0x01 ∷ 0x00 ∷ 0x00 ∷ 0x00 ∷ 0x7f ∷ 0x04 ∷ 0x00 ∷ 0x00 ∷ 0x00 ∷ 0x00 ∷ 0x00 ∷ [])) ≡ refuses 9 7)
-    × (verdict (checked (0x7f ∷ 0x04 ∷ 0x00 ∷ 0x00 ∷ 0x00 ∷ 0x00 ∷ 0x00 ∷ 0x7f ∷ [])) ≡ refuses 10 7)
-    × (verdict (checked (0x03 ∷ 0x04 ∷ 0x00 ∷ 0x00 ∷ 0x00 ∷ 0x00 ∷ 0x00 ∷ [])) ≡ refuses 11 7)
+    × (verdict (checked (0x7f ∷ 0x04 ∷ 0x00 ∷ 0x01 ∷ 0xe1 ∷ 0xf5 ∷ 0x05 ∷ [])) ≡ refuses (numbered 8 0))
+    × (verdict (checked (0x03 ∷ 0x04 ∷ 0x00 ∷ 0x01 ∷ 0x00 ∷ 0x00 ∷ 0x00 ∷ 0x7f ∷ 0x04 ∷ 0x00 ∷ 0x00 ∷ 0x00 ∷ 0x00 ∷ 0x00 ∷ [])) ≡ refuses (numbered 9 7))
+    × (verdict (checked (0x7f ∷ 0x04 ∷ 0x00 ∷ 0x00 ∷ 0x00 ∷ 0x00 ∷ 0x00 ∷ 0x7f ∷ [])) ≡ refuses (numbered 10 7))
+    × (verdict (checked (0x03 ∷ 0x04 ∷ 0x00 ∷ 0x00 ∷ 0x00 ∷ 0x00 ∷ 0x00 ∷ [])) ≡ refuses (numbered 11 7))
 unfolding checked scoreOf walk fieldAt lenOf valueOf admit numberAt little
 numbers = (refl, refl, refl, refl, refl, refl, refl, refl, refl, refl)

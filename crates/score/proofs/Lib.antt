@@ -1,5 +1,7 @@
 pub mod Chains
 pub mod Examples
 pub mod Fields
+pub mod Given
+pub mod Stamps
 pub mod Walk
 pub mod Written

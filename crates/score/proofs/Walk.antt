@@ -34,7 +34,7 @@ module _ (n : ℕ) (s : List ℕ) (at : ℕ) (o : Order) where
 
   module _ {f : Field} {next : ℕ} (e : fieldAt s at ≡ Got f next) where
     got : walk (suc n) s at o ≡ afterRead (walk n s) s at o (Got f next)
-    got = rw (turn (omega (arith, stands s at e .fits)), e)
+    got = rw (turn (omega (arith, stands s at e .whole .fits)), e)
 
     pub unadmitted : {why : Refusal} → admit o f ≡ Unadmitted why → walk (suc n) s at o ≡ bad (refused why at)
     unadmitted a = rw (got, a)
@@ -75,7 +75,7 @@ module _ {s : List ℕ} {at : ℕ} {o : Order} (k : Kept s at o) where
   kept-more {f} {next} {o′} e a i = go (k .fuel) (k .enough) (k .same)
     where
       go : (n : ℕ) → length s - at ≤ n → answer (walk (suc n) s at o) ≡ checked s → Kept s next o′
-      go zero m q = absurd (omega (arith, stands s at e .fits))
+      go zero m q = absurd (omega (arith, stands s at e .whole .fits))
       go (suc n) m q =
           record {
             fuel = n;

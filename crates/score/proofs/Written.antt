@@ -1,14 +1,11 @@
--- The round trip: an accepted score is the bytes of its fields, and the bytes of fields in order are a score of those fields. Assumes nothing.
+-- The round trip: an accepted score is the bytes of its fields, and the bytes of fields in order are a score of those
+-- fields. Assumes nothing.
 use Prim.Native.Nat.{ℕ, _+_, _^_, _≤_, _<_}
 use native.Mathlib.Omega.{arith}
-use mathlib.Core.Bool.{true}
 use mathlib.Core.List.{List, [], _∷_, _++_, append-assoc}
-use mathlib.Core.Path.{_≡_, refl, ap, ap₂, subst, sym, _∙_}
-use lib.Dec.{ltb, eqb}
+use mathlib.Core.Path.{_≡_, refl, ap, ap₂, sym, _∙_}
 use lib.ListN.{length, drop, length-drop, length-append}
 use lib.Seq.{drop-drop, drop-length, getD-drop, drop-append-seam}
-use borrow.Author.Tests.{eqb-true, ltb-false}
-use Rattle.laws.proofs.Cond.{by-test}
 use Rattle.words.proofs.Bytes.{length-bytes, byte-number, byte-first, number-bytes, bytes-number}
 use Rattle.words.specs.Words.{Bytes, numberAt, bytesOf}
 use Rattle.score.specs.declared.Admitted.{Admitted}
@@ -21,22 +18,10 @@ use Rattle.score.specs.Fields.{lenOf, valueOf, fieldAt, tagOf, stampOf, 
 use Rattle.score.specs.Scores.{good, scoreOf, Chain, ends, goes}
 use Rattle.score.specs.Stamps.{unstamped, admit, InOrder, closed, opened}
 use Rattle.score.proofs.Chains.{score-chain, chain-score}
-use Rattle.score.proofs.Fields.{field-whole, stands}
+use Rattle.score.proofs.Fields.{field-whole, stands, tags}
+use Rattle.score.proofs.Stamps.{by-stamp}
 
 -- ---- a field that was read is the bytes at its place
-
--- a known tag is one of four
-tags : (P : ℕ → Type 0) → P 0x01 → P 0x02 → P 0x03 → P 0x7f → (tag : ℕ) → (lenOf tag ≡ 0 → ⊥) → P tag
-unfolding lenOf
-tags P write read levels end tag =
-    let by = by-test (λ (n : ℕ). (n ≡ 0 → ⊥) → P tag) in
-    by (eqb tag 0x01) 6 _ (λ t _. is 0x01 t write)
-    (λ _. by (eqb tag 0x02) 5 _ (λ t _. is 0x02 t read)
-    (λ _. by (eqb tag 0x03) 4 _ (λ t _. is 0x03 t levels)
-    (λ _. by (eqb tag 0x7f) 4 0 (λ t _. is 0x7f t end) (λ _ k. absurd (k refl)))))
-  where
-    is : (n : ℕ) → eqb tag n ≡ true → P n → P tag
-    is n t = subst P (sym (eqb-true tag n t))
 
 -- what the value v of a field says
 record Value (tag : ℕ) (v : List ℕ) : Type 0 where
@@ -64,11 +49,11 @@ module _ (s : List ℕ) (small : Bytes s) where
       let st = stands s at e in
       let tag = numberAt 1 s at in
       let v = drop (at + 3) s in
-      let b : Value tag v = value-bytes v (λ i. rw (getD-drop (at + 3) s i 0) (small (at + 3 + i))) tag (st .known) (omega (arith, length-drop (at + 3) s)) in
+      let b : Value tag v = value-bytes v (λ i. rw (getD-drop (at + 3) s i 0) (small (at + 3 + i))) tag (st .whole .known) (omega (arith, length-drop (at + 3) s)) in
       let t : tagOf f ≡ tag = ap tagOf (st .field) ∙ b .tag-is in
       let p : at + 1 + 2 ≡ at + 3 = omega arith in
       let w : v ≡ bytesOf 4 (stampOf f) ++ (restOf f ++ drop next s) = rw (st .field, st .ends, ← drop-drop (lenOf tag) (at + 3) s) (b .bytes) in
-      rw (parts f (drop next s), t, byte-first s at (omega arith), number-bytes s small 2 (at + 1) (omega arith), st .says, p)
+      rw (parts f (drop next s), t, byte-first s at (omega arith), number-bytes s small 2 (at + 1) (omega arith), st .whole .says, p)
       (ap (λ (x : List ℕ). tag ∷ (bytesOf 2 (lenOf tag) ++ x)) w)
 
 -- ---- a field that was written is read back
@@ -128,10 +113,9 @@ pub score-bytes : {s : List ℕ} {fs : List Field} → Bytes s → scoreOf s ≡
 score-bytes {s} small e = let c = score-chain s e in (chain-bytes small (c .0), chain-order (c .0), c .1)
 
 admitted-le : (o : Order) (f : Field) (o′ : Order) → admit o f ≡ Next o′ → stampOf f ≤ 100000000
-unfolding admit
 admitted-le o f o′ =
-    by-test (λ (r : Admitted). r ≡ Next o′ → stampOf f ≤ 100000000) (ltb 100000000 (stampOf f)) _ _
-    (λ _ e. let z : _≡_ {A = ℕ} 0 1 = cc in absurd (omega arith)) (λ l _. ltb-false 100000000 (stampOf f) l)
+    by-stamp o f refl (λ (a : Admitted). a ≡ Next o′ → stampOf f ≤ 100000000)
+    (λ _ e. let z : _≡_ {A = ℕ} 0 1 = cc in absurd (omega arith)) (λ h _ _. h) (λ h _ _. h)
 
 order-chain : {o : Order} {fs : List Field} → InOrder o fs → (s : List ℕ) (at : ℕ) → drop at s ≡ allWritten fs → Chain s at o fs
 unfolding allWritten

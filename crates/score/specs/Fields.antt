@@ -27,18 +27,31 @@ valueOf tag v =
 abbrev pub refuse : Refusal → ℕ → FieldRead
 refuse why place = Refused (refused why place)
 
--- the length that the tag at a place asks for
-abbrev pub lenAt : List ℕ → ℕ → ℕ
-lenAt s at = lenOf (numberAt 1 s at)
+-- 'one-byte tag, two-byte length', then the value: the tag at a place, the length that the header says, the length that
+-- the tag asks for, the field of a known tag, the place after it
+abbrev pub tagAt : List ℕ → ℕ → ℕ
+tagAt s at = numberAt 1 s at
 
--- 'one-byte tag, two-byte length', then the value: the field at a place and the place after it; or '5 for the header, 6, 7, 5 for the value', each at the tag
+abbrev pub saidAt : List ℕ → ℕ → ℕ
+saidAt s at = numberAt 2 s (at + 1)
+
+abbrev pub lenAt : List ℕ → ℕ → ℕ
+lenAt s at = lenOf (tagAt s at)
+
+abbrev pub valueAt : List ℕ → ℕ → Field
+valueAt s at = valueOf (tagAt s at) (drop (at + 3) s)
+
+abbrev pub afterAt : List ℕ → ℕ → ℕ
+afterAt s at = at + 3 + lenAt s at
+
+-- the field at a place and the place after it; or '5 for the header, 6, 7, 5 for the value', each at the tag
 unfoldable pub fieldAt : List ℕ → ℕ → FieldRead
 fieldAt s at =
     cond (ltb (length s) (at + 3)) (refuse FieldCut at)
     (cond (eqb (lenAt s at) 0) (refuse UnknownTag at)
-    (cond (not (eqb (numberAt 2 s (at + 1)) (lenAt s at))) (refuse FieldLength at)
-    (cond (ltb (length s) (at + 3 + lenAt s at)) (refuse FieldCut at)
-    (Got (valueOf (numberAt 1 s at) (drop (at + 3) s)) (at + 3 + lenAt s at)))))
+    (cond (not (eqb (saidAt s at) (lenAt s at))) (refuse FieldLength at)
+    (cond (ltb (length s) (afterAt s at)) (refuse FieldCut at)
+    (Got (valueAt s at) (afterAt s at)))))
 
 abbrev pub tagOf : Field → ℕ
 tagOf (Write t a v) = 0x01

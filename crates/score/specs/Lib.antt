@@ -1,3 +1,4 @@
 pub mod Fields
 pub mod Stamps
 pub mod Scores
+pub mod Given

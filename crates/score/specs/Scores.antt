@@ -5,7 +5,7 @@ use mathlib.Core.List.{List, [], _∷_}
 use mathlib.Core.Path.{_≡_}
 use lib.Dec.{ltb, leb}
 use lib.ListN.{length}
-use Rattle.refusals.specs.Refusals.{refused, told}
+use Rattle.refusals.specs.Refusals.{refused, Told, told}
 use Rattle.refusals.specs.declared.Refusal.the-variants.{ScoreLength, AfterEnd, NoEnd}
 use Rattle.refusals.specs.declared.Refused.{Refused as Refusing}
 use Rattle.score.specs.declared.Admitted.{Admitted}
@@ -28,7 +28,8 @@ abbrev pub push : Field → Parsed → Parsed
 push f (good fs) = good (f ∷ fs)
 push f (bad r) = bad r
 
--- a field that ends before `next` and was admitted: '10 after an end field', else the rest of the score, `go` of the next place and order
+-- a field that ends before `next` and was admitted: '10 after an end field', else the rest of the score, `go` of the
+-- next place and order
 abbrev pub afterAdmit : (ℕ → Order → Parsed) → List ℕ → ℕ → Field → ℕ → Admitted → Parsed
 afterAdmit go s at f next (Unadmitted why) = bad (refused why at)
 afterAdmit go s at f next (Next o) =
@@ -39,8 +40,8 @@ abbrev pub afterRead : (ℕ → Order → Parsed) → List ℕ → ℕ → Order
 afterRead go s at o (Unread r) = bad r
 afterRead go s at o (Got f next) = afterAdmit go s at f next (admit o f)
 
--- the score from `at` on: 'field by field', '11 last'. The first argument lets the recursion end: it is more than the bytes that are left, and each
--- field takes some
+-- the score from `at` on: 'field by field', '11 last'. The first argument lets the recursion end: it is more than the
+-- bytes that are left, and each field takes some
 unfoldable pub walk : ℕ → List ℕ → ℕ → Order → Parsed
 walk zero s at o = bad (refused NoEnd (length s))
 walk (suc n) s at o = cond (leb (length s) at) (bad (refused NoEnd (length s))) (afterRead (walk n s) s at o (fieldAt s at))
@@ -65,13 +66,14 @@ checked s = answer (scoreOf s)
 -- document 01's values of an answer: the clocks of an accepted score, or the number and the place
 pub data Verdict : Type 0 where
   accepts : ℕ → Verdict
-  refuses : ℕ → ℕ → Verdict
+  refuses : Told → Verdict
 
 abbrev pub verdict : Checked → Verdict
 verdict (Accepted clocks) = accepts clocks
-verdict (Refused r) = refuses (told r .number) (told r .place)
+verdict (Refused r) = refuses (told r)
 
--- the shape of an accepted score from `at` on: each field is read at its place and admitted, and the last alone is an end, with nothing after it
+-- the shape of an accepted score from `at` on: each field is read at its place and admitted, and the last alone is an
+-- end, with nothing after it
 pub data Chain (s : List ℕ) : ℕ → Order → List Field → Type 0 where
   ends
       : {at : ℕ} {o o′ : Order} {f : Field}

@@ -1,4 +1,5 @@
--- The rules on a field's stamp, for whoever reads or writes fields: document 01, 'Score and program' and 'Numbers a caller can get back'.
+-- The rules on a field's stamp, for whoever reads or writes fields: document 01, 'Score and program' and 'Numbers a
+-- caller can get back'.
 use mathlib.Core.Bool.{true, false, cond}
 use mathlib.Core.List.{List, [], _∷_}
 use mathlib.Core.Path.{_≡_}
@@ -14,7 +15,8 @@ use Rattle.score.specs.Fields.{stampOf, isEnd}
 abbrev pub unstamped : Order
 unstamped = record { last = 0 }
 
--- '8, 9': 'stamp over 100,000,000', 'stamp below the field before'. 'Stamps never fall; several fields may share a stamp'
+-- '8, 9': 'stamp over 100,000,000', 'stamp below the field before'. 'Stamps never fall; several fields may share a
+-- stamp'
 unfoldable pub admit : Order → Field → Admitted
 admit o f =
     cond (ltb 100000000 (stampOf f)) (Refused StampTooLate)

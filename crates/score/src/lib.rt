@@ -6,7 +6,8 @@ ghost use Prim.Native.Nat.{_-_};
 ghost use lib.ListN.{length};
 ghost use Rattle.score.specs.Fields.{lenOf, valueOf, refuse, fieldAt, stampOf, isEnd};
 ghost use Rattle.score.specs.Stamps.{unstamped, admit};
-ghost use Rattle.score.specs.Scores.{checked};
+ghost use Rattle.score.specs.Scores.{checked, verdict};
+ghost use Rattle.score.specs.Given.{Judged};
 
 pub enum Field {
     Write { stamp: u32, address: u8, value: u8 },
@@ -167,7 +168,7 @@ pub enum Checked {
 
 // The whole score, before the first clock: the first refusal ends the walk.
 pub fn check_score(s: &[u8]) -> Checked
-    ensures { λ r. ⌜ r ≡ checked (now (s .entry)) ⌝ }
+    ensures { λ r. ⌜ (r ≡ checked (now (s .entry))) × Judged (now (s .entry)) (verdict r) ⌝ }
 {
     if 65536 < s.len() {
         return Checked::Refused(Refused {

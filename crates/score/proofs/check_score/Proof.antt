@@ -1,3 +1,4 @@
+-- `check_score` gives the clocks of an accepted score, or the first refusal and its place, as document 01's table says.
 use borrow.Author.Needs.{needs}
 use native.Mathlib.Omega.{arith}
 use Prim.Native.Nat.{_-_}
@@ -5,6 +6,7 @@ use mathlib.Core.Path.{ap, sym, _∙_}
 use lib.ListN.{length}
 use Rattle.score.specs.declared.Checked.the-variants.{Accepted}
 use Rattle.score.proofs.Fields.{stands}
+use Rattle.score.proofs.Given.{promised}
 use Rattle.score.proofs.Walk.{over, unread, unadmitted, surplus, ended, answer-end, too-long, Kept, kept-first, kept-more, kept-end}
 use Rattle.score.proofs.check_score.Statement.{statement}
 use Rattle.score.proofs.check_score.Tie as tie
@@ -16,7 +18,7 @@ abbrev μ-loop : tie.MeasureT-loop
 μ-loop s at₀ order₀ at order = length s - at
 
 returns : tie.Need-returns Inv-loop μ-loop
-returns c = sym (too-long (c .before .before .args .s .now) (omega arith))
+returns c = promised _ (sym (too-long (c .before .before .args .s .now) (omega arith)))
 
 new-requires : tie.Need-new-requires Inv-loop μ-loop
 new-requires c κs = search needs
@@ -50,8 +52,9 @@ stamp-requires c κs = search needs
 
 loop-less : tie.Need-loop-less Inv-loop μ-loop
 loop-less c =
-    let st = stands (c .before .before .before .before .before .before .before .before .before .before .before .before .before .before .before .args .s .now) (c .before .before .before .before .before .before .before .before .before .before .before .loop .at) (sym (c .before .before .before .before .before .before .before .before .before .field-at .ensures) ∙ c .before .before .before .before .before .before .before .f .given .1) in
-    omega (arith, st .fits, st .ends)
+    let e = sym (c .before .before .before .before .before .before .before .before .before .field-at .ensures) ∙ c .before .before .before .before .before .before .before .f .given .1 in
+    let st = stands _ _ e in
+    omega (arith, st .whole .fits, st .ends)
 
 loop-again : tie.Need-loop-again Inv-loop μ-loop
 loop-again c =
@@ -60,32 +63,33 @@ loop-again c =
     kept-more (c .before .before .before .before .before .before .before .before .before .before .before .loop .inv) e a (sym (c .before .is-end .ensures) ∙ c .if3 .left)
 
 returns-2 : tie.Need-returns-2 Inv-loop μ-loop
-returns-2 c = kept-end (c .before .loop .inv) (λ n. over n _ _ _ (omega arith))
+returns-2 c = promised _ (kept-end (c .before .loop .inv) (λ n. over n _ _ _ (omega arith)))
 
 returns-3 : tie.Need-returns-3 Inv-loop μ-loop
 returns-3 c =
     let e = sym (c .before .before .before .field-at .ensures) ∙ c .before .r .given .1 in
-    kept-end (c .before .before .before .before .before .loop .inv) (λ n. unread n _ _ _ (omega arith) e)
+    promised _ (kept-end (c .before .before .before .before .before .loop .inv) (λ n. unread n _ _ _ (omega arith) e))
 
 returns-4 : tie.Need-returns-4 Inv-loop μ-loop
 returns-4 c =
     let e = sym (c .before .before .before .before .before .before .before .field-at .ensures) ∙ c .before .before .before .before .before .f .given .1 in
     let a = sym (c .before .before .before .admit .ensures) ∙ c .before .why .given .1 in
-    kept-end (c .before .before .before .before .before .before .before .before .before .loop .inv) (λ n. unadmitted n _ _ _ e a)
+    promised _ (kept-end (c .before .before .before .before .before .before .before .before .before .loop .inv) (λ n. unadmitted n _ _ _ e a))
 
 returns-5 : tie.Need-returns-5 Inv-loop μ-loop
 returns-5 c =
     let e = sym (c .before .before .before .before .before .before .before .before .before .before .field-at .ensures) ∙ c .before .before .before .before .before .before .before .before .f .given .1 in
     let a = sym (c .before .before .before .before .before .before .admit .ensures) ∙ c .before .before .before .before .o .given .1 in
     let i = sym (c .before .before .is-end .ensures) ∙ c .before .if3 .taken in
-    kept-end (c .before .before .before .before .before .before .before .before .before .before .before .before .loop .inv) (λ n. surplus n _ _ _ e a i (omega arith))
+    promised _ (kept-end (c .before .before .before .before .before .before .before .before .before .before .before .before .loop .inv) (λ n. surplus n _ _ _ e a i (omega arith)))
 
 returns-6 : tie.Need-returns-6 Inv-loop μ-loop
 returns-6 c =
     let e = sym (c .before .before .before .before .before .before .before .before .before .before .before .field-at .ensures) ∙ c .before .before .before .before .before .before .before .before .before .f .given .1 in
     let a = sym (c .before .before .before .before .before .before .before .admit .ensures) ∙ c .before .before .before .before .before .o .given .1 in
     let i = sym (c .before .before .before .is-end .ensures) ∙ c .before .before .if3 .taken in
-    ap Accepted (c .stamp .ensures) ∙ (sym (answer-end (c .before .before .before .before .before .before .before .before .before .f .given .0 .0) i) ∙ kept-end (c .before .before .before .before .before .before .before .before .before .before .before .before .before .loop .inv) (λ n. ended n _ _ _ e a i (omega arith)))
+    let whole = kept-end (c .before .before .before .before .before .before .before .before .before .before .before .before .before .loop .inv) (λ n. ended n _ _ _ e a i (omega arith)) in
+    promised _ (ap Accepted (c .stamp .ensures) ∙ (sym (answer-end (c .before .before .before .before .before .before .before .before .before .f .given .0 .0) i) ∙ whole))
 
 pub check-score-spec : {M : Type 1} → statement M
 check-score-spec =

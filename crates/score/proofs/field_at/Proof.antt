@@ -1,3 +1,4 @@
+-- `field_at` gives the field at a place and the place after it, or refuses with 5, 6, 7, 5, in that order, at the tag.
 use borrow.Author.Needs.{needs}
 use native.Mathlib.Omega.{arith}
 use Prim.Native.Nat.{_+_, _-_}

@@ -1,3 +1,4 @@
+-- `len_of` gives the length of a tag's value: 6 for a write, 5 for a read, 4 for levels and end, 0 for an unknown tag.
 use borrow.Author.Tests.{ne-eqb}
 use Rattle.score.specs.Fields.{lenOf}
 use Rattle.score.proofs.len_of.Statement.{statement}

@@ -1,3 +1,4 @@
+-- `value_of` gives the field of a known tag: its stamp, of a write its address and value, of a read its address.
 use borrow.Author.Needs.{needs}
 use borrow.Author.Tests.{ne-eqb}
 use Rattle.score.specs.Fields.{valueOf}

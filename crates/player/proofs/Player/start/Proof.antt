@@ -17,11 +17,11 @@ enum-known-r c = search needs
 
 returns : tie.Need-returns
 unfolding startOf
-returns c = simp (← (c .before .before .check-score .ensures), c .enum-told .given .1, c .before .before .before .new .ensures)
+returns c = simp (← (c .before .before .check-score .ensures .0), c .enum-told .given .1, c .before .before .before .new .ensures)
 
 returns-2 : tie.Need-returns-2
 unfolding startOf
-returns-2 c = simp (← (c .before .before .before .check-score .ensures), c .before .r .given .1, c .before .before .before .before .new .ensures)
+returns-2 c = simp (← (c .before .before .before .check-score .ensures .0), c .before .r .given .1, c .before .before .before .before .new .ensures)
 
 pub start-spec : {M : Type 1} → statement M
 start-spec =

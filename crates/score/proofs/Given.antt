@@ -1,0 +1,139 @@
+-- The check of a score gives a number exactly when document 01's table says, at the table's place. Assumes nothing.
+use Prim.Native.Nat.{ℕ, zero, suc, _+_, _≤_, _<_}
+use native.Mathlib.Omega.{arith}
+use mathlib.Core.List.{List, _∷_}
+use mathlib.Core.Logic.{_↔_}
+use mathlib.Core.Path.{_≡_, refl, ap, subst, sym, _∙_}
+use lib.Dec.{ltb, leb}
+use lib.ListN.{length}
+use borrow.Author.Tests.{ltb-true, ltb-false, leb-true, leb-false, eqb-true, eqb-false, eq-eqb, ne-eqb}
+use Rattle.laws.proofs.Cond.{by-test}
+use Rattle.refusals.proofs.Numbers.{told-tells}
+use Rattle.refusals.specs.Refusals.{numbered, told}
+use Rattle.refusals.specs.declared.Refused.{Refused as Refusing}
+use Rattle.score.specs.declared.Admitted.{Admitted}
+use Rattle.score.specs.declared.Admitted.the-variants.{Next}
+use Rattle.score.specs.declared.Checked.{Checked}
+use Rattle.score.specs.declared.Checked.the-variants.{Accepted, Refused}
+use Rattle.score.specs.declared.Field.{Field}
+use Rattle.score.specs.declared.FieldRead.{FieldRead}
+use Rattle.score.specs.declared.FieldRead.the-variants.{Got}
+use Rattle.score.specs.declared.Order.{Order}
+use Rattle.score.specs.Fields.{valueAt, afterAt, fieldAt, isEnd}
+use Rattle.score.specs.Given.{stampAt, Whole, Timely, Prefix, none, more, Judged}
+use Rattle.score.specs.Given.{Given, row-4, row-5-header, row-6, row-7, row-5-value, row-8, row-9, row-10, row-11}
+use Rattle.score.specs.Scores.{Parsed, good, bad, push, afterAdmit, afterRead, walk, scoreOf, answer, checked, refuses, verdict, Chain, ends, goes}
+use Rattle.score.specs.Stamps.{unstamped, admit}
+use Rattle.score.proofs.Fields.{header-cut, tag-unknown, length-wrong, value-cut, by-field, whole-read, whole-end, whole-stamp}
+use Rattle.score.proofs.Stamps.{too-late, falls, admitted, by-stamp}
+use Rattle.score.proofs.Walk.{over, unread, unadmitted, surplus, Kept, kept-first, kept-more, kept-end, too-long}
+
+-- number and place, or the clocks, tell the answer
+pub verdict-tells : (a b : Checked) → verdict a ≡ verdict b → a ≡ b
+verdict-tells (Accepted a) (Accepted b) e = cc
+verdict-tells (Accepted a) (Refused r) e = let z : _≡_ {A = ℕ} 0 1 = cc in absurd (omega arith)
+verdict-tells (Refused r) (Accepted b) e = let z : _≡_ {A = ℕ} 0 1 = cc in absurd (omega arith)
+verdict-tells (Refused a) (Refused b) e = ap Refused (told-tells a b cc)
+
+module _ {s : List ℕ} where
+  prefix-short : {at : ℕ} {o : Order} → Prefix s at o → length s ≤ 65536
+  prefix-short (none h) = h
+  prefix-short (more p w t e) = prefix-short p
+
+  prefix-le : {at : ℕ} {o : Order} → Prefix s at o → at ≤ length s
+  prefix-le (none h) = omega arith
+  prefix-le (more p w t e) = w .fits
+
+  whole-admitted : {at : ℕ} {o : Order} → Whole s at → Timely s at o → admit o (valueAt s at) ≡ Next (record { last = stampAt s at })
+  whole-admitted {at} {o} w t = admitted o (valueAt s at) (whole-stamp w) (t .not-over) (t .not-below)
+
+-- ---- where a row is given, the check gives its number
+
+prefix-kept : {s : List ℕ} {at : ℕ} {o : Order} → Prefix s at o → Kept s at o
+prefix-kept {s} (none h) = kept-first s h
+prefix-kept (more p w t e) = kept-more (prefix-kept p) (whole-read w) (whole-admitted w t) (whole-end w ∙ ne-eqb _ _ e)
+
+module _ {s : List ℕ} where
+  refused-at : {at : ℕ} {o : Order} {r : Refusing} → Prefix s at o → ((n : ℕ) → walk (suc n) s at o ≡ bad r) → verdict (checked s) ≡ refuses (told r)
+  refused-at p w = ap verdict (sym (kept-end (prefix-kept p) w))
+
+  pub given-refused : {number place : ℕ} → Given s number place → verdict (checked s) ≡ refuses (numbered number place)
+  given-refused (row-4 h) = ap verdict (too-long s h)
+  given-refused (row-5-header p l h) = refused-at p (λ n. unread n s _ _ l (header-cut s _ h))
+  given-refused (row-6 p h z) = refused-at p (λ n. unread n s _ _ (omega arith) (tag-unknown s _ h refl z))
+  given-refused (row-7 p h k e) = refused-at p (λ n. unread n s _ _ (omega arith) (length-wrong s _ h refl k e))
+  given-refused (row-5-value p h k e c) = refused-at p (λ n. unread n s _ _ (omega arith) (value-cut s _ h refl k e c))
+  given-refused (row-8 p w h) = refused-at p (λ n. unadmitted n s _ _ (whole-read w) (too-late _ _ (whole-stamp w) h))
+  given-refused (row-9 p w h l) = refused-at p (λ n. unadmitted n s _ _ (whole-read w) (falls _ _ (whole-stamp w) h l))
+  given-refused (row-10 p w t e l) = refused-at p (λ n. surplus n s _ _ (whole-read w) (whole-admitted w t) (whole-end w ∙ eq-eqb _ _ e) l)
+  given-refused (row-11 p) = refused-at p (λ n. over n s _ _ (omega arith))
+
+-- ---- where the check gives a number, its row is given; where it accepts, there is a chain
+
+module _ (s : List ℕ) where
+  -- what an answer of the walk from `at` on means
+  abbrev pub Means : ℕ → Order → Parsed → Type 0
+  Means at o (good fs) = Chain s at o fs × (length s ≤ 65536)
+  Means at o (bad r) = Given s (told r .number) (told r .place)
+
+  means-push
+      : {at next : ℕ} {o o′ : Order} (f : Field) (p : Parsed)
+      → ((fs : List Field) → Chain s next o′ fs → Chain s at o (f ∷ fs))
+      → Means next o′ p
+      → Means at o (push f p)
+  means-push f (good fs) g c = (g fs (c .0), c .1)
+  means-push f (bad r) g c = c
+
+  module _
+      (n at : ℕ) (o : Order) (p : Prefix s at o) (rest : (next : ℕ) (o′ : Order) → at < next → Prefix s next o′ → Means next o′ (walk n s next o′))
+    where
+      abbrev after : Admitted → Type 0
+      after a = Means at o (afterAdmit (walk n s) s at (valueAt s at) (afterAt s at) a)
+
+      means-timely : Whole s at → Timely s at o → after (Next (record { last = stampAt s at }))
+      means-timely w t =
+          let e = whole-read w in
+          let a = whole-admitted w t in
+          by-test (Means at o) (isEnd (valueAt s at)) _ _
+          (λ i. by-test (Means at o) (ltb (afterAt s at) (length s)) _ _
+          (λ l. row-10 p w t (eqb-true _ _ (sym (whole-end w) ∙ i)) (ltb-true _ _ l))
+          (λ l. let q : afterAt s at ≡ length s = omega (arith, w .fits, ltb-false (afterAt s at) (length s) l) in
+          (ends (e ∙ ap (Got (valueAt s at)) q) a i, prefix-short p)))
+          (λ i. means-push (valueAt s at) (walk n s (afterAt s at) (record { last = stampAt s at })) (λ fs c. goes e a i c)
+          (rest (afterAt s at) (record { last = stampAt s at }) (omega arith) (more p w t (eqb-false _ _ (sym (whole-end w) ∙ i)))))
+
+      means-read : at < length s → Means at o (afterRead (walk n s) s at o (fieldAt s at))
+      means-read l =
+          by-field s at (λ (r : FieldRead). Means at o (afterRead (walk n s) s at o r))
+          (row-5-header p l) (row-6 p) (row-7 p) (row-5-value p)
+          (λ w. by-stamp o (valueAt s at) (whole-stamp w) after (row-8 p w) (row-9 p w) (λ h l. means-timely w (record { not-over = h; not-below = l })))
+
+  walk-means : (n at : ℕ) (o : Order) → Prefix s at o → length s < at + n → Means at o (walk n s at o)
+  unfolding walk
+  walk-means zero at o p h = absurd (omega (arith, prefix-le p))
+  walk-means (suc n) at o p h =
+      by-test (Means at o) (leb (length s) at) _ _
+      (λ l. let e : at ≡ length s = omega (arith, prefix-le p, leb-true (length s) at l) in row-11 (subst (λ (k : ℕ). Prefix s k o) e p))
+      (λ l. means-read n at o p (λ next o′ g q. walk-means n next o′ q (omega arith)) (leb-false _ _ l))
+
+  pub score-means : Means 0 unstamped (scoreOf s)
+  unfolding scoreOf
+  score-means =
+      by-test (Means 0 unstamped) (ltb 65536 (length s)) _ _ (λ h. row-4 (ltb-true _ _ h))
+      (λ h. walk-means (suc (length s)) 0 unstamped (none (ltb-false _ _ h)) (omega arith))
+
+  pub judged : Judged s (verdict (checked s))
+  unfolding checked
+  judged = go (scoreOf s) score-means
+    where
+      go : (p : Parsed) → Means 0 unstamped p → Judged s (verdict (answer p))
+      go (good fs) m = record { short = m .1; fields = fs; chain = m .0; stamp = refl }
+      go (bad r) m = m
+
+  -- 'Given exactly when'
+  pub given-exactly : (number place : ℕ) → (verdict (checked s) ≡ refuses (numbered number place)) ↔ Given s number place
+  given-exactly number place = (λ e. subst (Judged s) e judged, given-refused)
+
+  -- the promise of `check_score`
+  pub promised : {r : Checked} → r ≡ checked s → (r ≡ checked s) × Judged s (verdict r)
+  promised e = (e, rw e judged)

@@ -1,0 +1,85 @@
+-- Document 01, 'Numbers a caller can get back', rows 4 to 11, in plain numbers: what each is given for, at which place.
+-- `given-exactly` holds the check to them.
+use Prim.Native.Nat.{ℕ, _+_, _≤_, _<_}
+use mathlib.Core.List.{List}
+use mathlib.Core.Path.{_≡_}
+use lib.ListN.{length, drop}
+use Rattle.words.specs.Words.{numberAt}
+use Rattle.score.specs.declared.Field.{Field}
+use Rattle.score.specs.declared.Order.{Order}
+use Rattle.score.specs.Fields.{tagAt, saidAt, lenAt, afterAt}
+use Rattle.score.specs.Scores.{clocksOf, Chain, Verdict, accepts, refuses}
+use Rattle.score.specs.Stamps.{unstamped}
+
+-- 'stamp in 4 bytes': the first four after the header
+abbrev pub stampAt : List ℕ → ℕ → ℕ
+stampAt s at = numberAt 4 (drop (at + 3) s) 0
+
+-- the field at a place is past '5 for the header, 6, 7, 5 for the value'
+pub record Whole (s : List ℕ) (at : ℕ) : Type 0 where
+  pub known : lenAt s at ≡ 0 → ⊥
+  pub says : saidAt s at ≡ lenAt s at
+  pub fits : afterAt s at ≤ length s
+
+-- its stamp is past '8, 9', o holding the stamp of the field before
+pub record Timely (s : List ℕ) (at : ℕ) (o : Order) : Type 0 where
+  pub not-over : stampAt s at ≤ 100000000
+  pub not-below : o .last ≤ stampAt s at
+
+-- '4 is first, then field by field': every field before `at` is past all this, none is an end, and o is the order after
+pub data Prefix (s : List ℕ) : ℕ → Order → Type 0 where
+  none : length s ≤ 65536 → Prefix s 0 unstamped
+  more
+      : {at : ℕ} {o : Order}
+      → Prefix s at o
+      → Whole s at
+      → Timely s at o
+      → (tagAt s at ≡ 0x7f → ⊥)
+      → Prefix s (afterAt s at) (record { last = stampAt s at })
+
+-- the table in the order of refusals, `Given s number place`; each row with what 01 says of it, and its place
+pub data Given (s : List ℕ) : ℕ → ℕ → Type 0 where
+  -- 'score over 65,536 bytes', 0
+  row-4 : 65536 < length s → Given s 4 0
+  -- 'field header .. cut off', tag
+  row-5-header : {at : ℕ} {o : Order} → Prefix s at o → at < length s → length s < at + 3 → Given s 5 at
+  -- 'unknown tag', tag
+  row-6 : {at : ℕ} {o : Order} → Prefix s at o → at + 3 ≤ length s → lenAt s at ≡ 0 → Given s 6 at
+  -- 'length not the tag's', tag
+  row-7 : {at : ℕ} {o : Order} → Prefix s at o → at + 3 ≤ length s → (lenAt s at ≡ 0 → ⊥) → (saidAt s at ≡ lenAt s at → ⊥) → Given s 7 at
+  -- 'field .. value cut off', tag
+  row-5-value
+      : {at : ℕ} {o : Order}
+      → Prefix s at o
+      → at + 3 ≤ length s
+      → (lenAt s at ≡ 0 → ⊥)
+      → saidAt s at ≡ lenAt s at
+      → length s < afterAt s at
+      → Given s 5 at
+  -- 'stamp over 100,000,000', tag
+  row-8 : {at : ℕ} {o : Order} → Prefix s at o → Whole s at → 100000000 < stampAt s at → Given s 8 at
+  -- 'stamp below the field before', tag
+  row-9 : {at : ℕ} {o : Order} → Prefix s at o → Whole s at → stampAt s at ≤ 100000000 → stampAt s at < o .last → Given s 9 at
+  -- 'bytes after the end field', first such byte
+  row-10
+      : {at : ℕ} {o : Order}
+      → Prefix s at o
+      → Whole s at
+      → Timely s at o
+      → tagAt s at ≡ 0x7f
+      → afterAt s at < length s
+      → Given s 10 (afterAt s at)
+  -- 'no end field, empty score included', score length
+  row-11 : {o : Order} → Prefix s (length s) o → Given s 11 (length s)
+
+-- an accepted score, and its clocks: the stamp of the end
+pub record Chained (s : List ℕ) (clocks : ℕ) : Type 0 where
+  pub short : length s ≤ 65536
+  pub fields : List Field
+  pub chain : Chain s 0 unstamped fields
+  pub stamp : clocksOf fields ≡ clocks
+
+-- what document 01 says where the check's verdict is this
+abbrev pub Judged : List ℕ → Verdict → Type 0
+Judged s (accepts clocks) = Chained s clocks
+Judged s (refuses t) = Given s (t .number) (t .place)
