@@ -1,4 +1,4 @@
--- What each scene of the benchmark plays, and what is heard of it.
+-- What each scene of tools/bench plays, and what is heard of it; no rule of document 01.
 use Prim.Native.Nat.{ℕ, zero, suc, _+_, _*_, _/_, _%_, _^_}
 use mathlib.Core.Bool.{cond}
 use lib.Dec.{eqb}
@@ -10,6 +10,7 @@ use Rattle.sid.specs.declared.Mos6581.{Mos6581}
 unfoldable pub digest : ℕ → ℕ → ℕ → ℕ → ℕ → ℕ → ℕ
 digest c₀ c₁ c₂ l₀ l₁ l₂ = c₀ + c₁ * 4096 + c₂ * 16777216 + (l₀ + l₁ * 256 + l₂ * 65536) * 549755813888
 
+-- what is heard of a chip
 unfoldable pub heard : Mos6581 → ℕ
 heard c =
     digest (codeOf (c .«voice_0»)) (codeOf (c .«voice_1»)) (codeOf (c .«voice_2»)) (levelOf (c .«voice_0»)) (levelOf (c .«voice_1»)) (levelOf (c .«voice_2»))
@@ -27,6 +28,7 @@ tuned c base frequency control =
     (base + 6) 0xa9)
     (base + 4) control
 
+-- three voices of a fresh chip with one control byte
 unfoldable pub scene : ℕ → Mos6581
 scene control = tuned (tuned (tuned fresh 0 0x1d45 control) 7 0x2b11 control) 14 0x0f37 control
 

@@ -1,4 +1,5 @@
--- `clocked`, one law for each way that a clock goes. Assumes nothing.
+-- A clock leaves an empty bus as it is, only ages one before its next expiry, and drops what has expired at it.
+-- Assumes nothing.
 use Prim.Native.Nat.{ℕ, _+_, _-_, _^_, _≤_, _<_, min}
 use mathlib.Core.Path.{_≡_, sym}
 use borrow.Author.Tests.{lt-ltb, le-ltb, eq-eqb, ne-eqb}

@@ -1,4 +1,5 @@
--- Laws of `nextExpiry`, and one turn of the loop that works it out. Assumes nothing.
+-- Before its next expiry no bit of a byte goes (`kept-safe`), and a loop over the bits finds that expiry.
+-- Assumes nothing.
 use Prim.Native.Nat.{ℕ, _+_, _/_, _%_, _≤_, _<_, min}
 use native.Mathlib.Omega.{arith}
 use native.Mathlib.Numerals.{add-one}

@@ -1,5 +1,5 @@
--- Document 01, 'Data bus': n clocks after a drive, with no drive or reset since, the byte keeps exactly its bits whose hold exceeds n.
--- For every byte and every n. Assumes nothing.
+-- Document 01, 'Data bus': n clocks after a drive, with no drive or reset since, the byte keeps exactly its bits
+-- whose hold exceeds n. For every byte and every n. Assumes nothing.
 use Prim.Native.Nat.{ℕ, zero, suc, _+_, _-_, _/_, _%_, _^_, _<_, min}
 use native.Mathlib.Omega.{arith}
 use native.Mathlib.Numerals.{add-one}

@@ -1,4 +1,5 @@
--- Laws of `kept`, and one turn of the loop that works it out. Assumes nothing.
+-- A bit is kept exactly if its hold exceeds n (`kept-bit`), whatever has gone before (`kept-later`); a loop over the
+-- bits works it out. Assumes nothing.
 use Prim.Native.Nat.{ℕ, zero, suc, _+_, _*_, _/_, _%_, _^_, _≤_, _<_}
 use native.Mathlib.Omega.{arith}
 use native.Mathlib.Nat.{mul-add, mul-assoc, mul-comm, pow-le-pow-right, pow-suc, mul-le-mul-right, one-mul, pow-succ', div-one, div-div-eq-div-mul, le-of-suc-le-suc}

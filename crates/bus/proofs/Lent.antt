@@ -1,4 +1,5 @@
--- The functions that lend a bus by value to one of its methods: each meets its contract. A walk goes through the MIR as in Methods.antt. Assumes nothing.
+-- A bus by value that is lent to one of its methods comes back as the method leaves it, with the byte that the method
+-- gives. A walk goes through the MIR as in Methods.antt. Assumes nothing.
 use mathlib.Core.Path.{_≡_, refl, ap, _∙_}
 use Prim.Native.Nat.{ℕ, _<_, _^_}
 use mathlib.Core.List.{List, [], _∷_}

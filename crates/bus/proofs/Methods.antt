@@ -1,4 +1,6 @@
--- The methods of a lent bus: each meets its contract. A walk goes through the method's MIR, which is written out here, and is held to the method's own where it is cited. Assumes nothing.
+-- `reset`, `drive`, `read_driven` and `clock` leave a lent bus as the core's function says, and `read_floating` gives
+-- its byte. A walk goes through the method's MIR, which is written out here, and is held to the method's own where it
+-- is cited. Assumes nothing.
 use mathlib.Core.Path.{_≡_, refl}
 use Prim.Native.Nat.{ℕ, _<_, _^_}
 use mathlib.Core.List.{List, [], _∷_}

@@ -1,4 +1,5 @@
--- Steps that the walks of the bus's methods, and of the functions that lend them a bus, have in common. Assumes nothing.
+-- A lent bus can be taken out of its cell, and any bus put back: the steps that the walks of Methods.antt and
+-- Lent.antt have in common. Assumes nothing.
 use mathlib.Core.Path.{_≡_, refl}
 use Prim.Native.Nat.{ℕ}
 use mathlib.Core.List.{List, [], _∷_}

@@ -1,4 +1,4 @@
--- What a tick gives.
+-- What a tick gives: document 01, 'Added by the port'.
 use Rattle.clock.specs.declared.Ticked.{Ticked}
 use Rattle.sid.specs.Sid.{codeOf, levelOf}
 use Rattle.sid.specs.declared.Mos6581.{Mos6581}

@@ -10,7 +10,8 @@ use Rattle.envelope.proofs.Periods.{period-range, period-zero}
 use Rattle.noise.specs.Noise.{shownTo, fresh as Noise·fresh}
 use Rattle.waveforms.specs.Waveforms.{triangle}
 use Rattle.waveforms.proofs.Loading.{settled-zero, loaded-zero}
-use Rattle.release.specs.Release.{Settled, steps, inForce, divisorAfter, asked, matches, wait, lag, stepClock, ZeroFrom}
+use Rattle.release.specs.Release.{Settled, steps, inForce, divisorAfter, asked, matches, ZeroFrom}
+use Rattle.release.specs.StepClocks.{wait, lag, stepClock}
 use Rattle.edges.specs.Edges.{Matching, Releasing, Falling, Sustaining, Edges}
 use Rattle.release.proofs.Waits.{first-match}
 use Rattle.release.proofs.Stays.{sustain-stays}

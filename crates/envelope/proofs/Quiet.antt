@@ -1,4 +1,5 @@
--- Where nothing is under way a clock is the rate counter's alone: 'the short way at the head of `clock` gives the same state'. Assumes nothing.
+-- Where nothing is under way a clock is the rate counter's alone: 'the short way at the head of `clock` gives the
+-- same state'. Assumes nothing.
 use mathlib.Core.Path.{_≡_, refl, ap₂}
 use mathlib.Core.Bool.{Bool, true, false, _&&_, Bool·beq, false≢true}
 use borrow.Author.Tests.{eqb-true, eq-eqb, not-true}

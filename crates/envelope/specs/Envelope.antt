@@ -21,6 +21,7 @@ periods = 9 ∷ 32 ∷ 63 ∷ 95 ∷ 149 ∷ 220 ∷ 267 ∷ 313 ∷ 392 ∷ 977
 unfoldable pub periodOf : ℕ → ℕ
 periodOf rate = getD periods (rate % 16) 0
 
+-- the Rust's `== EnvelopeMotion::Rising`
 abbrev pub isRising : EnvelopeMotion → Bool
 isRising Rising = true
 isRising FallingToSustain = false
@@ -30,7 +31,8 @@ isRising FallingToZero = false
 unfoldable pub risingRateSelected : Envelope → Bool
 risingRateSelected e = isRising (cond (eqb (e .«motion_delay») 1) (e .«requested_motion») (e .motion))
 
--- the rate in force: the rising one, else the decay's if the gate input is high, else the release's (refresh_rate_target_phase)
+-- the rate in force: the rising one, else the decay's if the gate input is high, else the release's
+-- (refresh_rate_target_phase)
 unfoldable pub rateInForce : Envelope → ℕ
 rateInForce e = cond (risingRateSelected e) (e .«rise_rate») (cond (e .gate .input) (e .«decay_rate») (e .«fall_rate»))
 
@@ -62,26 +64,31 @@ edge g = edgeOf (g .«stage_a») (g .«stage_b»)
 abbrev pub advanced : GateHistory → GateHistory
 advanced g = record { input = g .input; «stage_a» = g .input; «stage_b» = g .«stage_a» }
 
+-- a motion requested with its delay (sample_gate_transition, clock_amplitude_path)
 abbrev pub requested : Envelope → EnvelopeMotion → ℕ → Envelope
 requested e motion delay = setMotionDelay (setRequestedMotion e motion) delay
 
--- 'A rise requests Rising with delay 2. A fall requests FallingToZero with delay 2 if the motion is Rising, else 1' (sample_gate_transition)
+-- 'A rise requests Rising with delay 2. A fall requests FallingToZero with delay 2 if the motion is Rising, else 1'
+-- (sample_gate_transition)
 unfoldable pub requestedOn : GateEdge → Envelope → Envelope
 requestedOn Rose e = requested e Rising 2
 requestedOn Fell e = requested e FallingToZero (cond (isRising (e .motion)) 2 1)
 requestedOn Still e = e
 
+-- the edge is that of the samples before they move on (sample_gate_transition)
 unfoldable pub gateSampled : Envelope → Envelope
 gateSampled e = requestedOn (edge (e .gate)) (setGate e (advanced (e .gate)))
 
--- 'a pending motion counts down': at 0 it is the motion, and each time the target is worked out anew (commit_requested_motion)
+-- 'a pending motion counts down': at 0 it is the motion, and each time the target is worked out anew
+-- (commit_requested_motion)
 unfoldable pub motionTaken : Envelope → Envelope
 motionTaken e = cond (eqb (e .«motion_delay») 0) (setMotion e (e .«requested_motion»)) e
 
 unfoldable pub motionCommitted : Envelope → Envelope
 motionCommitted e = cond (eqb (e .«motion_delay») 0) e (targetRefreshed (motionTaken (setMotionDelay e (e .«motion_delay» - 1))))
 
--- 'After a level change, 0xff and 0x00 queue divisor 1; 0x5d, 0x36, 0x1a, 0x0e, 0x06 queue 2, 4, 8, 16, 30; other levels queue none' (select_curve_divisor)
+-- 'After a level change, 0xff and 0x00 queue divisor 1; 0x5d, 0x36, 0x1a, 0x0e, 0x06 queue 2, 4, 8, 16, 30; other
+-- levels queue none': 0 (select_curve_divisor)
 unfoldable pub divisorFor : ℕ → ℕ
 divisorFor v =
     cond (eqb v 0xff) 1
@@ -95,14 +102,16 @@ divisorFor v =
 unfoldable pub divisorSelected : Envelope → Envelope
 divisorSelected e = setQueuedCurveDivisor e (divisorFor (e .volume))
 
--- 'Reaching 0xff while Rising requests FallingToSustain with delay 3, and overrides a fall seen on that very clock' (clock_amplitude_path)
+-- 'Reaching 0xff while Rising requests FallingToSustain with delay 3, and overrides a fall seen on that very clock'
+-- (clock_amplitude_path)
 unfoldable pub topReached : Envelope → Envelope
 topReached e = cond (eqb (e .volume) 0xff) (requested e FallingToSustain 3) e
 
--- '0xff plus 1 is 0'
+-- '0xff plus 1 is 0' (wrapping_add)
 unfoldable pub up : ℕ → ℕ
 up v = (v + 1) % 256
 
+-- a step up: the level, what it requests at 0xff, the divisor that it queues (clock_amplitude_path)
 unfoldable pub steppedUp : Envelope → Envelope
 steppedUp e = divisorSelected (topReached (setVolume e (up (e .volume))))
 
@@ -110,10 +119,11 @@ steppedUp e = divisorSelected (topReached (setVolume e (up (e .volume))))
 unfoldable pub bottomReached : Envelope → Envelope
 bottomReached e = cond (eqb (e .volume) 0) (setFloorHold e true) e
 
--- 'level 0 minus 1 is 0xff'
+-- 'level 0 minus 1 is 0xff' (wrapping_sub)
 unfoldable pub down : ℕ → ℕ
 down v = (v + 255) % 256
 
+-- a step down: the level, its hold at 0, the divisor that it queues (clock_amplitude_path)
 unfoldable pub steppedDown : Envelope → Envelope
 steppedDown e = divisorSelected (bottomReached (setVolume e (down (e .volume))))
 
@@ -130,7 +140,8 @@ amplitudeDue e = cond (eqb (e .«amplitude_delay») 0) (cond (e .«floor_hold»)
 unfoldable pub amplitudeClocked : Envelope → Envelope
 amplitudeClocked e = cond (eqb (e .«amplitude_delay») 0) e (amplitudeDue (setAmplitudeDelay e (e .«amplitude_delay» - 1)))
 
--- a curve delay counts down, and as it ends the curve count is 0 and level delay 1 is set, unless falling to sustain at that level (clock_curve_path)
+-- a curve delay counts down, and as it ends the curve count is 0 and level delay 1 is set, unless falling to sustain
+-- at that level (clock_curve_path; changeDue is its amplitude_change_due)
 abbrev pub changeDue : EnvelopeMotion → Bool → Bool
 changeDue Rising there = true
 changeDue FallingToSustain there = not there
@@ -149,7 +160,8 @@ curveClocked e = cond (eqb (e .«curve_delay») 0) e (curveDue (setCurveDelay e 
 unfoldable pub curveCounted : Envelope → Envelope
 curveCounted e = cond (eqb (e .«curve_count») (e .«curve_divisor»)) (setCurveDelay e (cond (eqb (e .«curve_divisor») 1) 1 2)) e
 
--- 'Under the rising rate it zeroes the curve count and sets level delay 2. Else, unless held, the curve count goes up' (consume_rate_match)
+-- 'Under the rising rate it zeroes the curve count and sets level delay 2. Else, unless held, the curve count goes up'
+-- (consume_rate_match)
 unfoldable pub matchUsed : Envelope → Envelope
 matchUsed e =
     cond (risingRateSelected e) (setAmplitudeDelay (setCurveCount e 0) 2)
@@ -167,12 +179,13 @@ phaseUp p = cond (eqb ((p + 1) % 65536) 32767) 0 ((p + 1) % 65536)
 unfoldable pub rateClocked : Envelope → Envelope
 rateClocked e = cond (eqb (e .«rate_phase») (e .«rate_target_phase»)) (setMatchedRate e true) (setRatePhase e (phaseUp (e .«rate_phase»)))
 
--- 'One clock: the readback takes the old level; a queued divisor is committed; the gate edge is read from two delayed samples;
--- a pending motion counts down; then level, curve, waiting match, rate counter, in that order': innermost first (clock)
+-- 'One clock: the readback takes the old level; a queued divisor is committed; the gate edge is read from two delayed
+-- samples; a pending motion counts down; then level, curve, waiting match, rate counter, in that order': innermost
+-- first (clock)
 unfoldable pub clocked : Envelope → Envelope
 clocked e = rateClocked (matchConsumed (curveClocked (amplitudeClocked (motionCommitted (gateSampled (divisorCommitted (levelRead e)))))))
 
--- the test of 'the short way at the head of `clock`': nothing is under way
+-- the test of 'The short way at the head of `clock`': nothing is under way (clock)
 unfoldable pub quiescent : Envelope → Bool
 quiescent e =
     eqb (e .«queued_curve_divisor») 0
@@ -189,11 +202,11 @@ clocks n e = times n clocked e
 
 -- ---- the calls
 
--- GateHistory::new
+-- a gate that has always been low (GateHistory::new)
 abbrev pub freshGate : GateHistory
 freshGate = record { input = false; «stage_a» = false; «stage_b» = false }
 
--- new
+-- freshly made (new): the level is 0xaa
 unfoldable pub fresh : Envelope
 fresh =
     record {
@@ -218,7 +231,8 @@ fresh =
       readback = 0xaa;
     }
 
--- 'Reset keeps level and rate phase, sets the readback to the level, and holds it exactly if the level is 0'; all else is fresh (reset)
+-- 'Reset keeps level and rate phase, sets the readback to the level, and holds it exactly if the level is 0';
+-- all else is fresh (reset)
 unfoldable pub reset : Envelope → Envelope
 reset e = setFloorHold (setRatePhase (setReadback (setVolume fresh (e .volume)) (e .volume)) (e .«rate_phase»)) (eqb (e .volume) 0)
 

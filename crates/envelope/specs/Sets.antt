@@ -1,5 +1,5 @@
--- The envelope with one field written anew: antt has no record update, and the struct is flat, as in the Rust.
--- Five functions write a group of fields each; the setters, one a field, are made of these.
+-- The envelope with one field written anew and every other as it was: antt has no record update, and the struct is
+-- flat, as in the Rust. Five functions write a group of fields each; the setters, one a field, are made of these.
 use Prim.Native.Nat.{ℕ}
 use mathlib.Core.Bool.{Bool}
 use Rattle.envelope.specs.declared.Envelope.{Envelope}

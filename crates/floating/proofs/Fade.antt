@@ -1,5 +1,6 @@
--- Document 01, 'Oscillator': a code that isn't 0, captured at a cycle below 2^63 and left on the floating lines, is whole for
--- 1,260,019 clocks and zero from clock 1,260,020. For every code, cycle and number of clocks. Assumes nothing.
+-- Document 01, 'Oscillator': a code that isn't 0, captured at a cycle below 2^63 and left on the floating lines, is
+-- whole for 1,260,019 clocks and zero from clock 1,260,020. For every code, cycle and number of clocks.
+-- Assumes nothing.
 use borrow.Author.Tests.{eq-eqb, ne-eqb, le-leb, lt-leb, eqb-true, eqb-false}
 use native.Mathlib.Nat.{mod-lt, one-mul}
 use native.Mathlib.Omega.{arith}

@@ -1,4 +1,5 @@
--- The floating lines: document 01, 'Oscillator'; FloatingBus of oscillator.rs. Its numbers (Floating) stand apart from the twelve charges.
+-- The floating lines: document 01, 'Oscillator'; FloatingBus of oscillator.rs. Their numbers (Floating) stand apart
+-- from the twelve charges.
 use Prim.Native.Nat.{ℕ, zero, suc, _+_, _-_, _*_, _/_, _%_, max}
 use mathlib.Core.Bool.{Bool, cond, not, _&&_}
 use mathlib.Core.List.{List}
@@ -11,15 +12,12 @@ use Rattle.laws.specs.Charges.{charged, highTo}
 use Rattle.floating.specs.declared.Floating.{Floating}
 use Rattle.floating.specs.declared.FloatingBus.{FloatingBus}
 
--- the lines out of their numbers and charges
-abbrev pub lines : Floating → List ℕ → FloatingBus
-lines f charge = record { numbers = f; charge = charge }
-
 -- the lines freshly made, and once a waveform is selected (new, reset)
 unfoldable pub fresh : FloatingBus
 fresh = record { numbers = record { value = 0; «hold_until» = never; «next_leak» = never }; charge = charged 0 12 }
 
--- 'Selecting waveform 0 from another captures the last code on floating lines' (capture; WAVEFORM_FLOAT_HOLD_CYCLES, WAVEFORM_FLOAT_LEAK_INTERVAL_CYCLES)
+-- 'Selecting waveform 0 from another captures the last code on floating lines' (capture; WAVEFORM_FLOAT_HOLD_CYCLES,
+-- WAVEFORM_FLOAT_LEAK_INTERVAL_CYCLES)
 unfoldable pub captured : ℕ → ℕ → FloatingBus
 captured code cycle = record {
   numbers = record { value = code % 4096; «hold_until» = after cycle 1137140; «next_leak» = after (after cycle 1137140) 8192 };
@@ -30,6 +28,7 @@ captured code cycle = record {
 abbrev pub lost : ℕ → ℕ
 lost q = q - max (q / 12) 1
 
+-- one leak step, of all twelve lines (sample)
 unfoldable pub leakStep : List ℕ → List ℕ
 leakStep charge = build (λ i. lost (getD charge i 0)) 12
 
@@ -41,18 +40,20 @@ leaks f cycle = not (eqb (f .value) 0) && (leb (f .«hold_until») cycle && leb 
 abbrev pub retained : List ℕ → ℕ
 retained charge = highTo 18000 charge 12 % 4096
 
--- the lines once they have leaked to these charges, and the next leak would be at a time (sample)
+-- the lines once they have leaked to these charges, their next leak at a time; none is to come where no line is left
+-- (sample)
 unfoldable pub leakedTo : Floating → List ℕ → ℕ → FloatingBus
 leakedTo f charge at = record {
   numbers = record { value = retained charge; «hold_until» = f .«hold_until»; «next_leak» = cond (eqb (retained charge) 0) never at };
   charge = charge;
 }
 
--- the leak steps elapsed at a cycle, counted from the next leak on
+-- the leak steps elapsed at a cycle, counted from the next leak on (elapsed_steps of sample)
 abbrev pub leakSteps : ℕ → ℕ → ℕ
 leakSteps at cycle = (cycle - at) / 8192 + 1
 
--- the lines sampled at a cycle (sample): the leak steps that are due, one after the other. What they give is the value they then have
+-- the lines sampled at a cycle: the leak steps that are due, one after the other (sample). What the Rust returns is the
+-- value that they then have
 unfoldable pub sampled : FloatingBus → ℕ → FloatingBus
 sampled b cycle =
     cond (leaks (b .numbers) cycle)
@@ -61,7 +62,7 @@ sampled b cycle =
     (after (b .numbers .«next_leak») (leakSteps (b .numbers .«next_leak») cycle * 8192)))
     b
 
--- the lines sampled on each of the n clocks that follow a cycle
+-- 'Left so': the lines sampled on each of the n clocks that follow a cycle
 unfoldable pub samples : ℕ → FloatingBus → ℕ → FloatingBus
 samples zero b cycle = b
 samples (suc n) b cycle = sampled (samples n b cycle) (after cycle (suc n))

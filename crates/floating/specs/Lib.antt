@@ -1,1 +1,2 @@
 pub mod Floating
+pub mod Loop

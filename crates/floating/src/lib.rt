@@ -5,7 +5,8 @@ use laws::saturating_sub;
 ghost use mathlib.Core.Path.{_≡_};
 ghost use Rattle.laws.specs.Times.{times};
 ghost use Rattle.laws.specs.Charges.{charged};
-ghost use Rattle.floating.specs.Floating.{lines, fresh, captured, lost as Floating·lost, leakStep, leaks as Floating·leaks, retained as Floating·retained, leakedTo, sampled};
+ghost use Rattle.floating.specs.Floating.{fresh, captured, lost as Floating·lost, leakStep, leaks as Floating·leaks, retained as Floating·retained, leakedTo, sampled};
+ghost use Rattle.floating.specs.Loop.{lines};
 
 pub struct Floating {
     pub value: u16,

@@ -1,4 +1,4 @@
--- What an `or` tells of its sides. Assumes nothing.
+-- An `or` that is false has two false sides, and one that denies its left side is an implication. Assumes nothing.
 use mathlib.Core.Path.{_≡_, refl}
 use mathlib.Core.Bool.{Bool, true, false, not, _||_, false≢true}
 

@@ -1,4 +1,5 @@
--- Laws of `build`: its length and entries; and what a loop builds that fills a list from the front, one store a turn. Assumes nothing.
+-- `build f n` has n entries, entry k being f k; so has a list that a loop fills from the front, one store a turn.
+-- Assumes nothing.
 use mathlib.Core.Path.{_≡_, refl, ap, ap₂, sym, subst⁻¹, _∙_}
 use mathlib.Core.List.{List, [], _∷_, _++_}
 use mathlib.Core.Logic.{inl, inr}

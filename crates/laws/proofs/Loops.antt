@@ -1,4 +1,4 @@
--- The last line of every counted loop. Assumes nothing.
+-- A counted loop that has stopped has counted exactly to its end. Assumes nothing.
 use mathlib.Core.Path.{_≡_, ap, _∙_}
 use Prim.Native.Nat.{ℕ, _≤_}
 use native.Mathlib.Nat.{le-antisymm}

@@ -1,4 +1,5 @@
--- What a mask leaves of a number, and a one shifted left. Assumes nothing.
+-- A mask of one bit leaves nothing exactly if that bit is clear, and a one shifted left within a word is a power of
+-- 2. Assumes nothing.
 use mathlib.Core.Path.{_≡_, ap, sym, _∙_}
 use Prim.Native.Nat.{ℕ, zero, suc, _+_, _-_, _*_, _/_, _%_, _^_, _<_}
 use native.Mathlib.Nat.{zero-mul, one-mul, mul-pos, zero-lt-suc}

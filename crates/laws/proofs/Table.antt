@@ -1,4 +1,4 @@
--- A rule of a table, proved at all of its entries by one test that antt computes, one entry after the other.
+-- A test that antt computes at every entry of a table, one after the other, holds at each of its places.
 -- Assumes nothing.
 use mathlib.Core.Path.{_∙_, subst, sym}
 use mathlib.Core.Bool.{Bool, true, false}

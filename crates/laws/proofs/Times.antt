@@ -1,4 +1,4 @@
--- Laws of `times`. Assumes nothing.
+-- n + 1 steps are n steps and one, before them or after, and n steps after m are m + n. Assumes nothing.
 use mathlib.Core.Path.{_≡_, refl, ap, sym, _∙_}
 use Prim.Native.Nat.{ℕ, zero, suc, _+_}
 use native.Mathlib.Nat.{add-zero, add-suc}

@@ -1,4 +1,4 @@
--- The list f 0, f 1, .. of n entries: an array, or a lent part, filled by index.
+-- The list f 0, f 1, .. of n entries: an array, or a lent part, filled by index (the Rust's loops over its arrays).
 use Prim.Native.Nat.{ℕ, zero, suc}
 use mathlib.Core.List.{List, [], _∷_, _++_}
 

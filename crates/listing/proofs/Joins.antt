@@ -1,4 +1,5 @@
--- Pieces put into a buffer one after the other, whether they fit, and the digits of a number. Assumes nothing.
+-- Pieces put one after the other are their join; bytes that don't fit change nothing; a number of 64 bits has at most
+-- 20 digits. Assumes nothing.
 use Prim.Native.Nat.{ℕ, zero, suc, _+_, _*_, _/_, _^_, _≤_, _<_}
 use native.Mathlib.Nat.{add-zero, add-suc, suc-add, pow-succ'}
 use native.Mathlib.Numerals.{add-one}

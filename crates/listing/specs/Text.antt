@@ -9,7 +9,7 @@ use lib.Seq.{sets}
 use Rattle.refusals.specs.Refusals.{Told}
 use Rattle.listing.specs.declared.Shown.{Shown}
 
--- xs was put into l at `at`: r is the place after it, and m the list with it
+-- 'the lent memory afterwards': xs was put into l at `at`, r is the place after it, and m the list with it
 pub record Put (l : List ℕ) (at : ℕ) (xs : List ℕ) (r : ℕ) (m : List ℕ) : Type 0 where
   pub place : r ≡ at + length xs
   pub bytes : m ≡ sets l at xs
@@ -18,10 +18,11 @@ pub record Put (l : List ℕ) (at : ℕ) (xs : List ℕ) (r : ℕ) (m : List ℕ
 abbrev pub fits : List ℕ → ℕ → List ℕ → Bool
 fits l at xs = leb (at + length xs) (length l)
 
--- l with xs at `at` where it fits, as it was where it doesn't
+-- l with xs at `at` where it fits; as it was where it doesn't: 'A refusal changes no … output memory'
 abbrev pub copied : List ℕ → ℕ → List ℕ → List ℕ
 copied l at xs = cond (fits l at xs) (sets l at xs) l
 
+-- a piece of one byte
 abbrev pub one : ℕ → List ℕ
 one b = b ∷ []
 
@@ -36,7 +37,7 @@ lineFeed = one 10
 abbrev pub lastDigit : ℕ → List ℕ
 lastDigit n = one (48 + n % 10)
 
--- the digits of n, of which there are at most as many as the first argument
+-- the last digits of n, at most as many as the first argument
 unfoldable pub digits : ℕ → ℕ → List ℕ
 digits zero n = []
 digits (suc k) n = cond (ltb n 10) (lastDigit n) (digits k (n / 10) ++ lastDigit n)
@@ -60,6 +61,7 @@ hex3 b = one (hexDigit (b / 256 % 16)) ++ (one (hexDigit (b / 16 % 16)) ++ one (
 unfoldable pub opening : ℕ → ℕ → List ℕ
 opening letter stamp = one letter ++ (space ++ decimal stamp)
 
+-- two hex digits after a space
 unfoldable pub spaced : ℕ → List ℕ
 spaced b = space ++ hex2 b
 

@@ -1,4 +1,4 @@
--- A copy loop within one array: its first n entries are those one place up. Assumes nothing.
+-- A loop that copies each entry from one place up has moved its first n after n turns. Assumes nothing.
 use native.Mathlib.Numerals.{add-one}
 use native.Mathlib.Omega.{arith}
 use Prim.Native.Nat.{ℕ, suc, _+_, _<_}

@@ -1,5 +1,5 @@
--- Document 01, 'Oscillator': 'A rise of phase bit 19 captures; the shift lands two clocks later; a rise in between is ignored. Feedback is
--- stage 0 xor stage 5.' For every register and every rise. Assumes nothing.
+-- Document 01, 'Oscillator': 'A rise of phase bit 19 captures; the shift lands two clocks later; a rise in between is
+-- ignored. Feedback is stage 0 xor stage 5.' For every register and every rise. Assumes nothing.
 use borrow.Author.Tests.{ne-eqb, le-leb, lt-leb}
 use native.Mathlib.Omega.{arith}
 use Prim.Native.Nat.{ℕ, _+_, _*_, _/_, _%_, _^_, _<_, _≤_}

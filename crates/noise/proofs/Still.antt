@@ -1,9 +1,10 @@
--- What `stepDue` says: where it is false, a clock leaves the register as it is. Assumes nothing.
+-- Where `stepDue` is false, a clock leaves the register as it is (`step-still`). Assumes nothing.
 use Prim.Native.Nat.{ℕ}
 use mathlib.Core.Bool.{Bool, true, false}
 use mathlib.Core.Path.{_≡_}
 use Rattle.laws.proofs.Bools.{or-left, or-right}
-use Rattle.noise.specs.Noise.{captures, clocked, transfers, transferred, relaxed, stepped, stepDue}
+use Rattle.noise.specs.Noise.{captures, clocked, transfers, transferred, relaxed, stepped}
+use Rattle.noise.specs.Loop.{stepDue}
 use Rattle.noise.specs.declared.NoiseGenerator.{NoiseGenerator}
 
 pub step-still : (g : NoiseGenerator) (test : Bool) (rising cycle : ℕ) → stepDue (g .numbers) test rising cycle ≡ false → stepped g test rising cycle ≡ g

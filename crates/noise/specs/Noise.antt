@@ -1,8 +1,9 @@
 -- The noise register: document 01, 'Oscillator'; NoiseGenerator of oscillator.rs, in that file's order.
 -- Its numbers (Noise) stand apart from the two lists of charges.
--- 'Capture, test entry and exit, charge and pull-down follow document 000 rule for rule, with wrapping on the 64-bit cycle.'
+-- 'Capture, test entry and exit, charge and pull-down follow document 000 rule for rule, with wrapping on the 64-bit
+-- cycle.' What a register shows is its `visible` (output).
 use Prim.Native.Nat.{ℕ, zero, suc, _+_, _-_, _*_, _/_, _%_, _^_, min, max}
-use mathlib.Core.Bool.{Bool, true, false, cond, not, _&&_, _||_}
+use mathlib.Core.Bool.{Bool, true, false, cond, not, _&&_}
 use mathlib.Core.List.{List, [], _∷_, _++_}
 use lib.Bits.{bitAnd, bitOr, bitXor}
 use lib.Dec.{eqb, ltb, leb}
@@ -13,10 +14,6 @@ use Rattle.laws.specs.Charges.{charged, highTo}
 use Rattle.noise.specs.declared.Noise.{Noise}
 use Rattle.noise.specs.declared.NoiseGenerator.{NoiseGenerator}
 use Rattle.noise.specs.declared.Stages.{Stages}
-
--- a register out of its numbers and charges; what it shows is its `visible` (output)
-abbrev pub generator : Noise → List ℕ → List ℕ → NoiseGenerator
-generator n capturedCharge charge = record { numbers = n; «captured_charge» = capturedCharge; charge = charge }
 
 -- 'taps 2, 4, 8, 11, 13, 17, 20, 22' (NOISE_OUTPUT_TAPS)
 abbrev pub taps : List ℕ
@@ -49,7 +46,8 @@ fresh = record {
   charge = charged 0x3fffff 23;
 }
 
--- test is entered: a shift under way is dropped, and the first leak is an interval away (enter_test; NOISE_TEST_LEAK_INTERVAL_CYCLES)
+-- test is entered: a shift under way is dropped, and the first leak is an interval away
+-- (enter_test; NOISE_TEST_LEAK_INTERVAL_CYCLES)
 unfoldable pub enteredTest : NoiseGenerator → ℕ → NoiseGenerator
 enteredTest g cycle = record {
   numbers = record {
@@ -68,7 +66,8 @@ enteredTest g cycle = record {
 abbrev pub sampled : List ℕ → ℕ
 sampled charge = highTo 32768 charge 23 % 2 ^ 23
 
--- test is left: the charges become stages again, and one shift, with stage 0 driven high, lands on the next clock (leave_test)
+-- test is left: the charges become stages again, and one shift, with stage 0 driven high, lands on the next clock
+-- (leave_test)
 unfoldable pub leftTest : NoiseGenerator → ℕ → NoiseGenerator
 leftTest g cycle = record {
   numbers = record {
@@ -104,7 +103,7 @@ caught g cycle = record { numbers = captureNumbers (g .numbers) cycle; «capture
 unfoldable pub clocked : NoiseGenerator → ℕ → ℕ → NoiseGenerator
 clocked g rising cycle = cond (captures (g .numbers) rising) (caught g cycle) g
 
--- whether a time that is set has come
+-- whether a time that is set has come (the first tests of execute_transfer and relax, affects_capture of pull_down)
 unfoldable pub come : ℕ → ℕ → Bool
 come at cycle = not (eqb at never) && leb at cycle
 
@@ -120,7 +119,7 @@ feedback captured = bitXor (captured % 2) (captured / 2 ^ 5 % 2)
 unfoldable pub shiftedState : ℕ → ℕ
 shiftedState captured = bitOr (captured / 2) (feedback captured * 2 ^ 22) % 2 ^ 23
 
--- the charges shift likewise, with a full charge for a feedback of 1
+-- the charges shift likewise, with a full charge for a feedback of 1 (execute_transfer)
 unfoldable pub incoming : Noise → ℕ
 incoming n = cond (eqb (feedback (n .captured)) 0) 0 65535
 
@@ -156,6 +155,7 @@ recovered q = cond (ltb q 65535) (min (q + max ((65535 - q) / 23) 1) 65535) q
 unfoldable pub marks : Stages → ℕ → Bool
 marks s i = leb 32768 (recovered (getD (s .charge) i 0)) && eqb (s .state / 2 ^ i % 2) 0
 
+-- one stage in a leak step: its charge recovers, and a marked stage is set and told of by `changed` (relax)
 unfoldable pub relaxedStage : Stages → ℕ → Stages
 relaxedStage s i = record {
   state = cond (marks s i) (bitOr (s .state) (2 ^ i)) (s .state);
@@ -171,10 +171,11 @@ relaxedTo s (suc n) = relaxedStage (relaxedTo s n) n
 abbrev pub relaxStep : Stages → Stages
 relaxStep s = relaxedTo s 23
 
--- the register once its stages have relaxed to s and the next leak is at a time: what changed shows, and is captured if no shift is under way (relax)
+-- whether what has relaxed is captured: a stage was marked, and no shift is under way (relax)
 unfoldable pub takes : Noise → Stages → Bool
 takes n s = s .changed && eqb (n .«transfer_at») never
 
+-- the register once its stages have relaxed to s, its next leak at a time: they show anew if one was marked (relax)
 unfoldable pub settledTo : NoiseGenerator → Stages → ℕ → NoiseGenerator
 settledTo g s at = record {
   numbers = record {
@@ -189,7 +190,7 @@ settledTo g s at = record {
   charge = s .charge;
 }
 
--- the leak steps elapsed at a cycle, counted from the next leak on
+-- the leak steps elapsed at a cycle, counted from the next leak on (elapsed_steps of relax)
 abbrev pub leakSteps : ℕ → ℕ → ℕ
 leakSteps at cycle = (cycle - at) / 65536 + 1
 
@@ -202,11 +203,12 @@ relaxed g cycle =
     (after (g .numbers .«next_leak») (leakSteps (g .numbers .«next_leak») cycle * 65536)))
     g
 
--- the line of tap n is low in a code
+-- the line of tap n is low in a code (load_pulse_coupling, pull_down)
 abbrev pub low : ℕ → ℕ → Bool
 low waveform n = eqb (waveform / 2 ^ (11 - n) % 2) 0
 
--- each low line takes a fourteenth of its stage's charge, and at least one (load_pulse_coupling; NOISE_PULSE_CHARGE_DIVISOR): one line, the first n, then all eight
+-- each low line takes a fourteenth of its stage's charge, and at least one: one line, the first n, then all eight
+-- (load_pulse_coupling; NOISE_PULSE_CHARGE_DIVISOR)
 abbrev pub drained : ℕ → ℕ
 drained q = q - max (q / 14) 1
 
@@ -220,7 +222,7 @@ coupledTo waveform charge (suc n) = coupledAt waveform n (coupledTo waveform cha
 unfoldable pub coupled : NoiseGenerator → ℕ → NoiseGenerator
 coupled g waveform = record { numbers = g .numbers; «captured_charge» = g .«captured_charge»; charge = coupledTo waveform (g .charge) 8 }
 
--- each low line discharges its stage (pull_down)
+-- each low line discharges its stage: one line, then the first n (pull_down)
 abbrev pub dischargedAt : ℕ → ℕ → List ℕ → List ℕ
 dischargedAt waveform n charge = cond (low waveform n) (set charge (tap n) 0) charge
 
@@ -228,7 +230,7 @@ unfoldable pub dischargedTo : ℕ → List ℕ → ℕ → List ℕ
 dischargedTo waveform charge zero = charge
 dischargedTo waveform charge (suc n) = dischargedAt waveform n (dischargedTo waveform charge n)
 
--- and clears it
+-- and clears it: one line, the first n, then all eight, cut to 23 bits (pull_down)
 abbrev pub clearedAt : ℕ → ℕ → ℕ → ℕ
 clearedAt waveform n state = cond (low waveform n) (bitAnd state (2 ^ 32 - 1 - 2 ^ tap n)) state
 
@@ -239,7 +241,7 @@ clearedTo waveform state (suc n) = clearedAt waveform n (clearedTo waveform stat
 abbrev pub cleared : ℕ → ℕ → ℕ
 cleared waveform state = clearedTo waveform state 8 % 2 ^ 23
 
--- what is captured is pulled down too where the shift lands by the next clock (pull_down)
+-- what is captured is pulled down too where the shift lands by the next clock (affects_capture of pull_down)
 unfoldable pub affectsCapture : Noise → ℕ → Bool
 affectsCapture n cycle = come (n .«transfer_at») (after cycle 1)
 
@@ -261,15 +263,13 @@ pulledDown g waveform cycle = record {
   charge = dischargedTo waveform (g .charge) 8;
 }
 
--- a clock of the phase reaches the register: in test it relaxes, else the shift lands and a rise captures (clock_accumulator)
+-- a clock of the phase reaches the register: in test it relaxes, else the shift lands and a rise captures
+-- (clock_accumulator)
 unfoldable pub stepped : NoiseGenerator → Bool → ℕ → ℕ → NoiseGenerator
 stepped g test rising cycle = cond test (relaxed g cycle) (clocked (transferred g cycle) rising cycle)
 
--- whether that clock changes anything (`step-still`)
-unfoldable pub stepDue : Noise → Bool → ℕ → ℕ → Bool
-stepDue n test rising cycle = cond test (come (n .«next_leak») cycle) (transfers n cycle || captures n rising)
-
--- the clocks on which pulse alone reaches the register: the one on which the shift of a rise lands, and the one before (latch_output)
+-- the clocks on which pulse alone reaches the register: the one on which the shift of a rise lands, and the one before
+-- (pulse_load_aperture of latch_output)
 unfoldable pub pulseLoadAperture : Noise → ℕ → Bool
 pulseLoadAperture n cycle =
     not (eqb (n .«normal_transfer_at») never) && (leb cycle (n .«normal_transfer_at») && leb (n .«normal_transfer_at») (after cycle 1))

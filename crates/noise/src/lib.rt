@@ -7,7 +7,8 @@ ghost use mathlib.Core.Path.{_≡_};
 ghost use Prim.Native.Nat.{_<_};
 ghost use Rattle.laws.specs.Times.{times};
 ghost use Rattle.laws.specs.Charges.{charged};
-ghost use Rattle.noise.specs.Noise.{generator, tap as Noise·tap, shown, fresh, enteredTest, sampled as Noise·sampled, leftTest, captures as Noise·captures, captureNumbers, clocked, come, transfers as Noise·transfers, feedback as Noise·feedback, shiftedState, incoming as Noise·incoming, shiftedCharge, shiftedNumbers, transferred, recovered as Noise·recovered, relaxedStage, relaxStep, settledTo, relaxed, low, drained as Noise·drained, coupledTo, coupled, dischargedTo, clearedTo, affectsCapture, pulledNumbers, pulledDown, stepped, stepDue, pulseLoadAperture};
+ghost use Rattle.noise.specs.Noise.{tap as Noise·tap, shown, fresh, enteredTest, sampled as Noise·sampled, leftTest, captures as Noise·captures, captureNumbers, clocked, come, transfers as Noise·transfers, feedback as Noise·feedback, shiftedState, incoming as Noise·incoming, shiftedCharge, shiftedNumbers, transferred, recovered as Noise·recovered, relaxedStage, relaxStep, settledTo, relaxed, low, drained as Noise·drained, coupledTo, coupled, dischargedTo, clearedTo, affectsCapture, pulledNumbers, pulledDown, stepped, pulseLoadAperture};
+ghost use Rattle.noise.specs.Loop.{generator, stepDue};
 
 pub struct Noise {
     pub state: u32,

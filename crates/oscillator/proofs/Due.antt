@@ -1,5 +1,5 @@
--- What is done only where it is due: each test, where it is true (`…-due`, `code-loaded`) and where it is false (`…-still`, `code-plain`).
--- Assumes nothing.
+-- A part of a tick does what its rule says where its test is true (`…-due`, `code-loaded`), and nothing where it is
+-- false (`…-still`, `code-plain`). Assumes nothing.
 use Prim.Native.Nat.{ℕ, _%_, _≤_}
 use native.Mathlib.Nat.{le-refl, le-trans}
 use borrow.Author.Tests.{eqb-true}
@@ -10,12 +10,14 @@ use mathlib.Core.Path.{_≡_, refl, ap, sym, _∙_}
 use lib.Dec.{eqb}
 use native.Mathlib.Omega.{arith}
 use Rattle.waveforms.specs.Waveforms.{drivers, needsLoading, loaded}
-use Rattle.noise.specs.Noise.{generator, coupled, coupledTo, pulledDown}
+use Rattle.noise.specs.Noise.{coupled, coupledTo, pulledDown}
+use Rattle.noise.specs.Loop.{generator}
 use Rattle.noise.specs.declared.Noise.{Noise}
 use Rattle.noise.specs.declared.NoiseGenerator.{NoiseGenerator}
 use Rattle.floating.specs.Floating.{leaks, sampled}
 use Rattle.floating.specs.declared.FloatingBus.{FloatingBus}
-use Rattle.oscillator.specs.Oscillator.{selected, ideal, waveformAt, code, loadsLines, plainCode, loadedCode, sampledBus, couples, pullsDown, coupledNoise, pulledNoise, sampleDue}
+use Rattle.oscillator.specs.Oscillator.{selected, ideal, waveformAt, code, loadsLines, loadedCode, sampledBus, couples, pullsDown, coupledNoise, pulledNoise}
+use Rattle.oscillator.specs.Loop.{plainCode, sampleDue}
 use Rattle.oscillator.specs.Selection.{isOff, has, joined, combined}
 use Rattle.oscillator.specs.declared.Control.{Control}
 use Rattle.oscillator.specs.declared.Tone.{Tone}

@@ -1,5 +1,5 @@
--- Document 01, 'Oscillator': 'A saw joined with another waveform whose code lacks bit 11 clears the phase's top bit and its rising mark', and
--- nothing else does. For every voice and code. Assumes nothing.
+-- Document 01, 'Oscillator': 'A saw joined with another waveform whose code lacks bit 11 clears the phase's top bit
+-- and its rising mark', and nothing else does. For every voice and code. Assumes nothing.
 use Prim.Native.Nat.{ℕ, _/_, _%_, _^_}
 use mathlib.Core.Bool.{true, false}
 use mathlib.Core.Path.{_≡_}

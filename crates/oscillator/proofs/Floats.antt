@@ -1,5 +1,6 @@
--- Document 01, 'Oscillator': selecting waveform 0 from another captures the last code; left so, a code that isn't 0 is whole for 1,260,019
--- clocks and zero from clock 1,260,020, provided the cycle at the capture is below 2^63. For every voice and every modulator. Assumes nothing.
+-- Document 01, 'Oscillator': selecting waveform 0 from another captures the last code; left so, a code that isn't 0
+-- is whole for 1,260,019 clocks and zero from clock 1,260,020, provided the cycle at the capture is below 2^63. For
+-- every voice and every modulator. Assumes nothing.
 use borrow.Author.Tests.{eq-eqb, ne-eqb}
 use native.Mathlib.Omega.{arith}
 use Prim.Native.Nat.{ℕ, zero, suc, _/_, _%_, _^_, _<_, _≤_}

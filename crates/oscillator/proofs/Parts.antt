@@ -1,4 +1,4 @@
--- One tick of a voice out of its parts, for a loop that holds them apart.
+-- A voice's tick is what its parts do one after the other, so that a loop may hold them apart (`tick-parts`).
 -- Assumes nothing.
 use mathlib.Core.Path.{_≡_}
 use mathlib.Core.Bool.{Bool, true, false, cond}

@@ -1,5 +1,5 @@
--- Document 01, 'Oscillator': 'Pulse is the comparison made one evaluation earlier, forced high in test.' For every voice that has pulse alone
--- selected, and every modulator. Assumes nothing.
+-- Document 01, 'Oscillator': 'Pulse is the comparison made one evaluation earlier, forced high in test.' For every
+-- voice that has pulse alone selected, and every modulator. Assumes nothing.
 use native.Mathlib.Omega.{arith}
 use Prim.Native.Nat.{ℕ, _%_}
 use mathlib.Core.Bool.{Bool, true, false, cond}

@@ -1,5 +1,6 @@
--- The oscillator of one voice: document 01, 'Oscillator'; Oscillator of oscillator.rs.
--- Its fields stand in two records of numbers, Control (what the registers say) and Tone (what a clock changes), beside the noise register and the floating lines.
+-- The oscillator of one voice: document 01, 'Oscillator'; Oscillator of oscillator.rs. Its fields stand in two
+-- records of numbers, Control (what the registers say) and Tone (what a clock changes), beside the noise register and
+-- the floating lines.
 use Prim.Native.Nat.{ℕ, zero, suc, _+_, _-_, _*_, _/_, _%_, _^_}
 use mathlib.Core.Bool.{Bool, false, cond, not, _&&_, _||_}
 use lib.Bits.{bitAnd, bitOr, bitXor}
@@ -9,8 +10,7 @@ use Rattle.waveforms.specs.Waveforms.{triangle, needsLoading, loaded}
 use Rattle.noise.specs.Noise.{fresh as Noise·fresh, enteredTest, leftTest, coupled, pulledDown, stepped, pulseLoadAperture}
 use Rattle.noise.specs.declared.Noise.{Noise}
 use Rattle.noise.specs.declared.NoiseGenerator.{NoiseGenerator}
-use Rattle.floating.specs.Floating.{fresh as Floating·fresh, captured, leaks, sampled}
-use Rattle.floating.specs.declared.Floating.{Floating}
+use Rattle.floating.specs.Floating.{fresh as Floating·fresh, captured, sampled}
 use Rattle.floating.specs.declared.FloatingBus.{FloatingBus}
 use Rattle.oscillator.specs.Selection.{select, isOff, has, isCombined, combined}
 use Rattle.oscillator.specs.declared.WaveformSelect.{WaveformSelect}
@@ -19,7 +19,7 @@ use Rattle.oscillator.specs.declared.Tone.{Tone}
 use Rattle.oscillator.specs.declared.Oscillator.{Oscillator}
 use Rattle.oscillator.specs.declared.Evaluated.{Evaluated}
 
--- the selection that the control register holds
+-- the selection that the control register holds (WaveformSelect::from_raw)
 abbrev pub selected : Control → WaveformSelect
 selected c = select (c .waveform)
 
@@ -34,7 +34,7 @@ fresh accumulator = record {
   bus = Floating·fresh;
 }
 
--- what rises from one phase to the next
+-- the bits that rise from one phase to the next (clock_accumulator)
 abbrev pub rising : ℕ → ℕ → ℕ
 rising old new = bitAnd (2 ^ 32 - 1 - old) new
 
@@ -49,6 +49,7 @@ clockedTone t c = record {
   readback = t .readback;
 }
 
+-- one clock of the phase, and of the noise register with what rises (clock_accumulator)
 unfoldable pub clocked : Oscillator → Oscillator
 clocked o = record {
   control = o .control;
@@ -75,6 +76,7 @@ trianglePhase c p modulator = cond (rings c modulator) (bitXor p 0x800) p
 abbrev pub pulse : Control → Tone → ℕ
 pulse c t = cond (c .«test_enabled») 0xfff (t .«pulse_output»)
 
+-- the comparison that the next evaluation uses (evaluate_output)
 unfoldable pub comparedTone : Tone → Control → Tone
 comparedTone t c = record {
   accumulator = t .accumulator;
@@ -85,27 +87,35 @@ comparedTone t c = record {
   readback = t .readback;
 }
 
--- ---- the code: the joined lines, loaded but for triangle with noise; what floats where nothing is selected (waveform_at_phase, evaluate_output)
+-- ---- the code of an evaluation (waveform_at_phase, evaluate_output)
 
+-- 'Selected lines are joined by and' (ideal of waveform_at_phase)
 unfoldable pub ideal : Control → Tone → ℕ → ℕ → ℕ
 ideal c t visible modulator =
     combined (selected c) (triangle (trianglePhase c (phase t) modulator)) (phase t) (pulse c t) visible (t .«last_sample»)
 
+-- a voice loads the lines of two waveforms or more; but 'Selection 9 has a table, yet the voice doesn't load its lines'
+-- (waveform_at_phase)
 unfoldable pub loadsLines : Control → Bool
 loadsLines c = not (eqb (selected c .raw) 9) && needsLoading (selected c .raw)
 
+-- a code with its lines loaded (waveform_at_phase)
 unfoldable pub loadedCode : Control → ℕ → ℕ
 loadedCode c plain = loaded (selected c .raw) plain % 4096
 
+-- the joined lines, loaded or not (waveform_at_phase)
 unfoldable pub waveformAt : Control → Tone → ℕ → ℕ → ℕ
 waveformAt c t visible modulator = cond (loadsLines c) (loadedCode c (ideal c t visible modulator)) (ideal c t visible modulator % 4096)
 
+-- the code: what floats where nothing is selected, else the waveforms' (evaluate_output)
 unfoldable pub code : Control → Tone → ℕ → ℕ → ℕ → ℕ
 code c t visible floats modulator = cond (isOff (selected c)) (floats % 4096) (waveformAt c t visible modulator)
 
+-- the floating lines leak only where nothing is selected (evaluate_output)
 unfoldable pub sampledBus : FloatingBus → Control → ℕ → FloatingBus
 sampledBus b c cycle = cond (isOff (selected c)) (sampled b cycle) b
 
+-- the code, from the comparison made before, and the voice with the lines and the comparison made now (evaluate_output)
 unfoldable pub evaluated : Oscillator → ℕ → Evaluated
 evaluated o modulator = record {
   code = code (o .control) (o .tone) (o .noise .numbers .visible) (sampledBus (o .bus) (o .control) (o .tone .cycle) .numbers .value) modulator;
@@ -117,7 +127,8 @@ evaluated o modulator = record {
   };
 }
 
--- ---- 'A saw joined with another waveform whose code lacks bit 11 clears the phase's top bit and its rising mark.' (apply_combined_feedback)
+-- ---- 'A saw joined with another waveform whose code lacks bit 11 clears the phase's top bit and its rising mark.'
+-- (apply_combined_feedback)
 
 unfoldable pub feedsBack : Control → ℕ → Bool
 feedsBack c output = has (selected c) 2 && (isCombined (selected c) && eqb (output / 2 ^ 11 % 2) 0)
@@ -147,7 +158,7 @@ latchedTone t latched = record {
   readback = latched;
 }
 
--- in test, noise with pulse and another couples its low lines into the charges
+-- in test, noise with pulse and another couples its low lines into the charges (latch_output)
 unfoldable pub couples : Control → Bool
 couples c = c .«test_enabled» && (eqb (bitAnd (selected c .raw) 0xc) 0xc && has (selected c) 3)
 
@@ -155,10 +166,11 @@ couples c = c .«test_enabled» && (eqb (bitAnd (selected c .raw) 0xc) 0xc && ha
 unfoldable pub noiseIsDriven : Control → Bool
 noiseIsDriven c = has (selected c) 8 && (has (selected c) 7 && not (c .«test_enabled»))
 
--- driven noise is pulled down, but with pulse alone only in the shift's aperture
+-- driven noise is pulled down, but with pulse alone only in the shift's aperture (latch_output)
 unfoldable pub pullsDown : Control → Noise → ℕ → Bool
 pullsDown c n cycle = noiseIsDriven c && (not (eqb (selected c .raw) 0xc) || pulseLoadAperture n cycle)
 
+-- the noise register after a latch: the coupling, then the pull-down (latch_output)
 unfoldable pub coupledNoise : NoiseGenerator → Control → ℕ → NoiseGenerator
 coupledNoise g c latched = cond (couples c) (coupled g latched) g
 
@@ -168,6 +180,7 @@ pulledNoise g c latched cycle = cond (pullsDown c (g .numbers) cycle) (pulledDow
 unfoldable pub latchedNoise : NoiseGenerator → Control → ℕ → ℕ → NoiseGenerator
 latchedNoise g c latched cycle = pulledNoise (coupledNoise g c latched) c latched cycle
 
+-- the code is latched by its low twelve bits (latch_output)
 unfoldable pub latchedCode : Oscillator → ℕ → Oscillator
 latchedCode o output = record {
   control = o .control;
@@ -176,9 +189,10 @@ latchedCode o output = record {
   bus = o .bus;
 }
 
--- ---- 'Selecting waveform 0 from another captures the last code on floating lines.' Test entry and exit (write_control, in its order)
+-- ---- 'Selecting waveform 0 from another captures the last code on floating lines.' Test entry and exit
+-- (write_control, in its order)
 
--- the four fields
+-- the four fields that the byte holds (write_control)
 unfoldable pub writtenControl : Control → ℕ → Control
 writtenControl c value = record {
   frequency = c .frequency;
@@ -189,12 +203,14 @@ writtenControl c value = record {
   «test_enabled» = not (eqb (bitAnd value 0x08) 0);
 }
 
--- then the lines, old selection against new as whole numbers
+-- then the floating lines: they capture where waveform 0 is selected from another, and are reset where another is.
+-- Old and new are compared as they stand, not by their low four bits (write_control)
 unfoldable pub writtenBus : FloatingBus → ℕ → ℕ → Tone → FloatingBus
 writtenBus b old new t = cond (eqb old new) b (cond (eqb new 0) (captured (t .«last_sample») (t .cycle)) Floating·fresh)
 
--- as test is left, drivers that stay connected load the register with the last code; pulse does so where triangle or saw was
--- connected, and holds all but the three lowest noise lines high (NOISE_PULSE_TRANSFER_RETAINED_LINES)
+-- as test is left, drivers that stay connected load the register with the last code; pulse does so where triangle or
+-- saw was connected, and holds all but the three lowest noise lines high (write_control;
+-- NOISE_PULSE_TRANSFER_RETAINED_LINES)
 unfoldable pub exitLoaded : NoiseGenerator → ℕ → ℕ → Tone → NoiseGenerator
 exitLoaded g old drivers t =
     cond (eqb (bitAnd drivers 8) 0) g
@@ -202,13 +218,14 @@ exitLoaded g old drivers t =
     (cond (eqb (bitAnd drivers 4) 0) g (cond (eqb (bitAnd old 3) 0) g (pulledDown g (bitOr (t .«last_sample») 0xf8f) (t .cycle))))
     (pulledDown g (t .«last_sample») (t .cycle)))
 
+-- then the noise register: test is left, or entered, or neither (write_control)
 unfoldable pub testedNoise : NoiseGenerator → Control → Control → Tone → NoiseGenerator
 testedNoise g old new t =
     cond (old .«test_enabled»)
     (cond (new .«test_enabled») g (leftTest (exitLoaded g (old .waveform) (bitAnd (old .waveform) (new .waveform)) t) (t .cycle)))
     (cond (new .«test_enabled») (enteredTest g (t .cycle)) g)
 
--- reset_phase
+-- phase and rising mark are cleared, and nothing else (reset_phase)
 unfoldable pub resetPhase : Tone → Tone
 resetPhase t = record {
   accumulator = 0;
@@ -219,9 +236,11 @@ resetPhase t = record {
   readback = t .readback;
 }
 
+-- and the phase, which is cleared as test is entered (write_control)
 unfoldable pub testedTone : Tone → Bool → Bool → Tone
 testedTone t old new = cond old t (cond new (resetPhase t) t)
 
+-- the whole write (write_control)
 unfoldable pub written : Oscillator → ℕ → Oscillator
 written o value = record {
   control = writtenControl (o .control) value;
@@ -230,7 +249,8 @@ written o value = record {
   bus = writtenBus (o .bus) (o .control .waveform) (writtenControl (o .control) value .waveform) (o .tone);
 }
 
--- ---- the registers of frequency and pulse width (write_frequency_lo, write_frequency_hi, write_pulse_width_lo, write_pulse_width_hi)
+-- ---- the registers of frequency and pulse width (write_frequency_lo, write_frequency_hi, write_pulse_width_lo,
+-- write_pulse_width_hi): twelve bits of a pulse width are kept
 
 abbrev pub tuned : Oscillator → ℕ → ℕ → Oscillator
 tuned o frequency width = record {
@@ -259,20 +279,22 @@ writtenPulseWidthLo o value = tuned o (o .control .frequency) (bitOr (bitAnd (o 
 abbrev pub writtenPulseWidthHi : Oscillator → ℕ → Oscillator
 writtenPulseWidthHi o value = tuned o (o .control .frequency) (bitOr (bitAnd (o .control .«pulse_width») 0x00ff) (value % 16 * 2 ^ 8))
 
--- ---- what is read: 'OSC3 is the top eight bits of voice 2's code' (read_output, output_is_frozen)
+-- ---- what is read: 'OSC3 is the top eight bits of voice 2's code' (read_output)
 
 abbrev pub readOutput : Oscillator → ℕ
 readOutput o = o .tone .readback / 2 ^ 4 % 256
 
+-- in test with pulse alone (output_is_frozen)
 abbrev pub outputIsFrozen : Oscillator → Bool
 outputIsFrozen o = o .control .«test_enabled» && eqb (o .control .waveform) 4
 
--- ---- synchronise
+-- ---- 'then synchronisation': the phase starts anew (synchronise)
 
 unfoldable pub synchronised : Oscillator → Oscillator
 synchronised o = record { control = o .control; tone = resetPhase (o .tone); noise = o .noise; bus = o .bus }
 
--- ---- one voice's part of a tick, with the modulator's phase given: 'evaluate, feedback, latch', after the phase's clock
+-- ---- 'Tick order', one voice's part, with the modulator's phase given: 'evaluate, feedback, latch', after the clock
+-- of its phase (tick)
 
 unfoldable pub voiced : Oscillator → ℕ → Oscillator
 voiced o modulator = latchedCode (fedBack (evaluated o modulator .oscillator) (evaluated o modulator .code)) (evaluated o modulator .code)
@@ -280,17 +302,7 @@ voiced o modulator = latchedCode (fedBack (evaluated o modulator .oscillator) (e
 unfoldable pub ticked : Oscillator → ℕ → Oscillator
 ticked o modulator = voiced (clocked o) modulator
 
--- n ticks, the modulator's phase given for each
+-- 'Left so': n ticks, the modulator's phase given for each
 unfoldable pub ticks : ℕ → Oscillator → (ℕ → ℕ) → Oscillator
 ticks zero o modulators = o
 ticks (suc n) o modulators = ticked (ticks n o modulators) (modulators n)
-
--- ---- whether a sample reaches an array at all
-
-unfoldable pub sampleDue : Control → Floating → ℕ → Bool
-sampleDue c f cycle = isOff (selected c) && leaks f cycle
-
--- ---- the code before lines are loaded
-
-unfoldable pub plainCode : Control → Tone → ℕ → ℕ → ℕ → ℕ
-plainCode c t visible floats modulator = cond (isOff (selected c)) (floats % 4096) (ideal c t visible modulator % 4096)

@@ -7,7 +7,8 @@ use noise::Noise;
 use noise::NoiseGenerator;
 ghost use mathlib.Core.Path.{_≡_};
 ghost use Rattle.oscillator.specs.Selection.{select, isOff, has as Selection·has, isCombined, joined, combined};
-ghost use Rattle.oscillator.specs.Oscillator.{fresh, rising as Oscillator·rising, clockedTone, clocked as Oscillator·clocked, phase as Oscillator·phase, rings as Oscillator·rings, trianglePhase, pulse as Oscillator·pulse, comparedTone, ideal as Oscillator·ideal, waveformAt, code as Oscillator·code, plainCode, loadsLines, loadedCode, sampledBus, evaluated, feedsBack, fedBackTone, fedBack, latchedTone, couples as Oscillator·couples, noiseIsDriven, pullsDown, coupledNoise, pulledNoise, latchedNoise, latchedCode, writtenControl, writtenBus, exitLoaded, testedNoise, resetPhase, testedTone, written, tuned, writtenFrequencyLo, writtenFrequencyHi, writtenPulseWidthLo, writtenPulseWidthHi, readOutput, outputIsFrozen, synchronised, sampleDue};
+ghost use Rattle.oscillator.specs.Oscillator.{fresh, rising as Oscillator·rising, clockedTone, clocked as Oscillator·clocked, phase as Oscillator·phase, rings as Oscillator·rings, trianglePhase, pulse as Oscillator·pulse, comparedTone, ideal as Oscillator·ideal, waveformAt, code as Oscillator·code, loadsLines, loadedCode, sampledBus, evaluated, feedsBack, fedBackTone, fedBack, latchedTone, couples as Oscillator·couples, noiseIsDriven, pullsDown, coupledNoise, pulledNoise, latchedNoise, latchedCode, writtenControl, writtenBus, exitLoaded, testedNoise, resetPhase, testedTone, written, tuned, writtenFrequencyLo, writtenFrequencyHi, writtenPulseWidthLo, writtenPulseWidthHi, readOutput, outputIsFrozen, synchronised};
+ghost use Rattle.oscillator.specs.Loop.{plainCode, sampleDue};
 
 pub struct WaveformSelect {
     pub raw: u8,

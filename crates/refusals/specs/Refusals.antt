@@ -1,4 +1,5 @@
--- Document 01, 'Numbers a caller can get back': the number of each refusal, with the table's words. Every promise of a number cites it.
+-- Document 01, 'Numbers a caller can get back': the number of each refusal, with the table's words. Every promise of a
+-- number cites it.
 use Prim.Native.Nat.{ℕ}
 use Rattle.refusals.specs.declared.Refused.{Refused}
 use Rattle.refusals.specs.declared.Refusal.{Refusal}
@@ -28,6 +29,7 @@ numberOf AfterEnd = 10
 -- no end field, empty score included; place: the score's length
 numberOf NoEnd = 11
 
+-- a refusal at its place
 abbrev pub refused : Refusal → ℕ → Refused
 refused why place = record { why = why; place = place }
 
@@ -39,5 +41,6 @@ pub record Told : Type 0 where
 abbrev pub numbered : ℕ → ℕ → Told
 numbered number place = record { number = number; place = place }
 
+-- number and place of a refusal
 abbrev pub told : Refused → Told
 told r = numbered (numberOf (r .why)) (r .place)

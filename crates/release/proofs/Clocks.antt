@@ -1,4 +1,5 @@
--- Each kind of clock of a release that is not spent waiting for the match. Assumes nothing.
+-- What each clock of a release leaves that isn't spent waiting for the match: a match counts or is due, a curve delay
+-- waits or ends, the level steps down, a divisor is committed. Assumes nothing.
 use Prim.Native.Nat.{ℕ, _+_, _%_, _<_, _≤_}
 use native.Mathlib.Omega.{arith}
 use mathlib.Core.Path.{_≡_, refl, ap, _∙_}

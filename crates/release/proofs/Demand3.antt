@@ -1,4 +1,4 @@
--- DEMAND 3 in plain numbers, for every settled release. Assumes nothing.
+-- Every settled release meets DEMAND 3, in the plain numbers of its sentence. Assumes nothing.
 use Prim.Native.Nat.{ℕ, zero, suc, _+_, _-_, _*_, _%_, _<_, _≤_}
 use native.Mathlib.Omega.{arith}
 use native.Mathlib.Nat.{suc-mul, add-mul}
@@ -7,7 +7,8 @@ use mathlib.Core.Path.{_≡_, refl, ap, sym, _∙_}
 use mathlib.Core.Bool.{false}
 use Rattle.envelope.specs.declared.Envelope.{Envelope}
 use Rattle.envelope.specs.Envelope.{clocks}
-use Rattle.release.specs.Release.{Settled, steps, divisorAfter, asked, matches, wait, lag, stepClock, landing, Needs, Demand3, ZeroFrom}
+use Rattle.release.specs.Release.{Settled, steps, divisorAfter, asked, matches, landing, Needs, Demand3, ZeroFrom}
+use Rattle.release.specs.StepClocks.{wait, lag, stepClock}
 use Rattle.release.proofs.Steps.{steps-closed, level-closed, divisor-le, divisor-range, lag-range, asked-first}
 use Rattle.release.proofs.Release.{settled-release}
 

@@ -1,4 +1,5 @@
--- Runs of clocks, joined: n clocks lead from one envelope to another, and before each of them something holds. Assumes nothing.
+-- Runs of clocks join: n clocks from s to t and m from t to u are n + m, and what holds before each of them still
+-- does. Assumes nothing.
 use Prim.Native.Nat.{ℕ, zero, suc, _+_, _-_, _<_, _≤_}
 use native.Mathlib.Omega.{arith}
 use native.Mathlib.Decide.{decLt}

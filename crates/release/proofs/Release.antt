@@ -1,4 +1,5 @@
--- Demand 3 over the definitions: each step of a settled release, to the clock. Assumes nothing.
+-- Every step of a settled release lands on its `stepClock`; the level stays in between, and ends held at zero.
+-- Assumes nothing.
 use Prim.Native.Nat.{ℕ, zero, suc, _+_, _-_, _*_, _<_, _≤_}
 use native.Mathlib.Omega.{arith}
 use native.Mathlib.Nat.{suc-mul, zero-mul, add-mul}
@@ -10,7 +11,8 @@ use Rattle.laws.specs.Times.{times}
 use Rattle.laws.proofs.Times.{times-first}
 use Rattle.envelope.specs.declared.Envelope.{Envelope}
 use Rattle.envelope.specs.Envelope.{divisorFor, down, phaseUp, clocks, quiescent}
-use Rattle.release.specs.Release.{Settled, steps, levelAfter, inForce, divisorAfter, asked, matches, wait, lag, stepClock, At, Releases}
+use Rattle.release.specs.Release.{Settled, steps, levelAfter, inForce, divisorAfter, asked, matches, At}
+use Rattle.release.specs.StepClocks.{wait, lag, stepClock, Releases}
 use Rattle.release.proofs.Keeps.{Keeps, after, one, join, long}
 use Rattle.release.proofs.Waits.{phase-up, wait-before, to-match}
 use Rattle.release.proofs.Clocks.{falling, match-counts, match-due, curve-waits, curve-ends, step-falls, divisor-commits}

@@ -1,4 +1,5 @@
--- A level that is held, and one that has fallen to the sustain level, stay on every clock, whatever the counters do. Assumes nothing.
+-- A level that is held, and one that has fallen to the sustain level, stay on every clock, whatever the counters do.
+-- Assumes nothing.
 use Prim.Native.Nat.{ℕ, zero, suc, _-_}
 use mathlib.Core.Path.{_≡_, sym, _∙_, subst}
 use mathlib.Core.Bool.{Bool, true, cond, false≢true}

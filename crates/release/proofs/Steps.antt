@@ -1,4 +1,5 @@
--- Levels and divisors of a fall: in closed form, within bounds, and counted from the first step instead of up to the last. Assumes nothing.
+-- After k steps down from v the level is (v + 256 - k) mod 256, every divisor in force lies in 1 to 30, and what is
+-- asked may be summed from the first step on. Assumes nothing.
 use Prim.Native.Nat.{ℕ, zero, suc, _+_, _-_, _%_, _<_, _≤_}
 use native.Mathlib.Omega.{arith}
 use native.Mathlib.Decide.{decLt}
@@ -10,7 +11,8 @@ use Rattle.laws.specs.Times.{times}
 use Rattle.laws.proofs.Cond.{either}
 use Rattle.laws.proofs.Times.{times-first}
 use Rattle.envelope.specs.Envelope.{divisorFor, down}
-use Rattle.release.specs.Release.{isDivisor, steps, levelAfter, inForce, divisorAfter, asked, lag}
+use Rattle.release.specs.Release.{isDivisor, steps, levelAfter, inForce, divisorAfter, asked}
+use Rattle.release.specs.StepClocks.{lag}
 
 -- ---- levels
 

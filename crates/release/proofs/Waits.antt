@@ -1,5 +1,5 @@
--- From any envelope with nothing under way the match is set once the counter has come to its target, the long way round too;
--- until then only phase and readback move. Assumes nothing.
+-- From any envelope with nothing under way the match is set once the counter has come to its target, the long way
+-- round too; until then only phase and readback move. Assumes nothing.
 use Prim.Native.Nat.{ℕ, zero, suc, _+_, _-_, _%_, _<_, _≤_}
 use native.Mathlib.Omega.{arith}
 use mathlib.Core.Path.{_≡_, refl, ap, sym, _∙_}
@@ -10,7 +10,8 @@ use Rattle.envelope.specs.declared.Envelope.{Envelope}
 use Rattle.envelope.specs.Sets.{setReadback, setRatePhase, setMatchedRate}
 use Rattle.envelope.specs.Envelope.{clocked, phaseUp, rateClocked, quiescent}
 use Rattle.envelope.proofs.Quiet.{quiet, quiet-clock}
-use Rattle.release.specs.Release.{wait, FirstMatch}
+use Rattle.release.specs.Release.{FirstMatch}
+use Rattle.release.specs.StepClocks.{wait}
 use Rattle.release.proofs.Keeps.{Keeps, one, join, long}
 
 pub phase-up : (p : ℕ) → p < 32767 → phaseUp p ≡ (p + 1) % 32767

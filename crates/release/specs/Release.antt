@@ -1,4 +1,5 @@
--- Document 01, 'Settled release', and demand 3, whose sentence stands before `landing`: the states and clocks that it speaks of, and what it claims.
+-- Document 01, 'Settled release', and demand 3, whose sentence stands before `landing`: the states and clocks that it
+-- speaks of, and what it claims.
 use Prim.Native.Nat.{ℕ, zero, suc, _+_, _-_, _*_, _%_, _<_, _≤_}
 use mathlib.Core.Path.{_≡_}
 use mathlib.Core.Bool.{Bool, true, false, cond, _||_}
@@ -69,36 +70,12 @@ asked v d (suc k) = asked v d k + divisorAfter v d k
 unfoldable pub matches : Envelope → ℕ → ℕ
 matches e k = asked (e .volume) (e .«curve_divisor») k - e .«curve_count»
 
--- '(P-1-p) mod 32767', by numbers that do not fall below 0
-unfoldable pub wait : ℕ → ℕ → ℕ
-wait P p = (P - 1 + 32767 - p) % 32767
+-- DEMAND 3, in the plain numbers of its sentence: 'Settled release: rate phase p, release period P. While neither a
+-- reset nor a write to that voice's control or envelope registers comes, a step down that needs S rate matches lands
+-- on clock ((P-1-p) mod 32767)+2+(S-1)P+e, the first clock being 1; e is 2 if that step's divisor is 1, otherwise 3.
+-- The level changes on no other clock, and ends held at zero.'
 
--- 'e is 2 if that step's divisor is 1, otherwise 3'
-unfoldable pub lag : ℕ → ℕ
-lag d = cond (eqb d 1) 2 3
-
--- the clock of step k, 'the first clock being 1'; of k = 0 the start
-unfoldable pub stepClock : Envelope → ℕ → ℕ → ℕ
-stepClock e P zero = 0
-stepClock e P (suc k) = wait P (e .«rate_phase») + 2 + (matches e (suc k) - 1) * P + lag (divisorAfter (e .volume) (e .«curve_divisor») k)
-
--- an envelope at level v, held or not
-abbrev pub At : ℕ → Bool → Envelope → Type 0
-At v held e = (e .volume ≡ v) × (e .«floor_hold» ≡ held)
-
--- Demand 3 over these definitions: from the clock of each step to that of the next the level is the same, and from that of the last on it is held at zero
-pub record Releases (e : Envelope) (P : ℕ) : Type 0 where
-  pub level
-      : (k : ℕ) → k < steps (e .volume) → (n : ℕ) → stepClock e P k ≤ n → n < stepClock e P (suc k)
-      → At (levelAfter (e .volume) k) false (clocks n e)
-  pub end : (n : ℕ) → stepClock e P (steps (e .volume)) ≤ n → At 0 true (clocks n e)
-
--- DEMAND 3 once more, in the plain numbers of its sentence:
--- 'Settled release: rate phase p, release period P. While neither a reset nor a write to that voice's control or envelope registers comes,
--- a step down that needs S rate matches lands on clock ((P-1-p) mod 32767)+2+(S-1)P+e, the first clock being 1; e is 2 if that step's
--- divisor is 1, otherwise 3. The level changes on no other clock, and ends held at zero.'
-
--- '((P-1-p) mod 32767)+2+(S-1)P+e', where the step's divisor is D
+-- '((P-1-p) mod 32767)+2+(S-1)P+e', where the step's divisor is D; 32767 is added so that no difference falls below 0
 abbrev pub landing : ℕ → ℕ → ℕ → ℕ → ℕ
 landing p P S D = (P - 1 + 32767 - p) % 32767 + 2 + (S - 1) * P + cond (eqb D 1) 2 3
 
@@ -107,7 +84,7 @@ abbrev pub Needs : Envelope → ℕ → ℕ → ℕ → Type 0
 Needs e k S D = (k < steps (e .volume)) × (S ≡ matches e (suc k)) × (D ≡ divisorAfter (e .volume) (e .«curve_divisor») k)
 
 pub record Demand3 (e : Envelope) (p P : ℕ) : Type 0 where
-  -- 'lands on clock …, the first clock being 1': after n clocks the level is as before the step, after n + 1 it is one less
+  -- 'lands on clock …, the first clock being 1': after n clocks the level is as before the step, after n + 1 one less
   pub lands
       : (k S D n : ℕ) → Needs e k S D → suc n ≡ landing p P S D
       → (clocks n e .volume ≡ (e .volume + 256 - k) % 256) × (clocks (suc n) e .volume ≡ (e .volume + 255 - k) % 256)
@@ -120,11 +97,15 @@ pub record Demand3 (e : Envelope) (p P : ℕ) : Type 0 where
       : (k S D n : ℕ) → Needs e k S D → suc k ≡ steps (e .volume) → landing p P S D ≤ n
       → (clocks n e .volume ≡ 0) × (clocks n e .«floor_hold» ≡ true)
 
--- the first match is set on clock n
+-- 'Both sides of each edge': 'first match on clock n'
 abbrev pub FirstMatch : Envelope → ℕ → Type 0
 FirstMatch e n = (clocks n e .«matched_rate» ≡ true) × ((m : ℕ) → m < n → clocks m e .«matched_rate» ≡ false)
 
--- the level comes to zero on clock n, and is held from then on
+-- an envelope at level v, held or not
+abbrev pub At : ℕ → Bool → Envelope → Type 0
+At v held e = (e .volume ≡ v) × (e .«floor_hold» ≡ held)
+
+-- 'Both sides of each edge': 'zero on clock n'. The level comes to zero there, and is held from then on
 abbrev pub ZeroFrom : Envelope → ℕ → Type 0
 ZeroFrom e n =
     ((m : ℕ) → m < n → (clocks m e .volume ≡ 0 → ⊥) × (clocks m e .«floor_hold» ≡ false))

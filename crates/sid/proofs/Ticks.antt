@@ -7,10 +7,11 @@ use Rattle.bus.specs.Bus.{clocked as Bus·clocked}
 use Rattle.bus.specs.declared.InternalDataBus.{InternalDataBus}
 use Rattle.envelope.specs.Envelope.{clocked as Envelope·clocked}
 use Rattle.envelope.specs.declared.Envelope.{Envelope}
-use Rattle.noise.specs.Noise.{generator, stepped}
+use Rattle.noise.specs.Noise.{stepped}
+use Rattle.noise.specs.Loop.{generator}
 use Rattle.noise.specs.declared.Noise.{Noise}
 use Rattle.noise.specs.declared.NoiseGenerator.{NoiseGenerator}
-use Rattle.floating.specs.Floating.{lines}
+use Rattle.floating.specs.Loop.{lines}
 use Rattle.floating.specs.declared.Floating.{Floating}
 use Rattle.floating.specs.declared.FloatingBus.{FloatingBus}
 use Rattle.oscillator.specs.Oscillator.{rising, clockedTone, comparedTone, code, sampledBus, fedBackTone, latchedTone, coupledNoise, pulledNoise, latchedNoise, resetPhase, synchronised as Oscillator·synchronised, ticked as Oscillator·ticked}

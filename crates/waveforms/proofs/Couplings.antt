@@ -1,5 +1,5 @@
--- A coupling turns only on the selection's decay and skew, of which there are three pairs, and on how far the destination lies above the source.
--- Assumes nothing.
+-- A coupling turns only on the selection's decay and skew, of which there are three pairs, and on how far the
+-- destination lies above the source. Assumes nothing.
 use mathlib.Core.Path.{_≡_, refl, ap₂, _∙_}
 use mathlib.Core.Bool.{Bool, true, false}
 use mathlib.Core.List.{List}
@@ -12,7 +12,8 @@ use lib.Ieee.{Float, nan}
 use borrow.Author.Tests.{eq-eqb, ne-eqb, lt-ltb, le-ltb, eqb-true, eqb-false, ltb-true, ltb-false}
 use Rattle.laws.proofs.Build.{built-at}
 use Rattle.waveforms.specs.Constants.{directionalSkews, distanceDecays, bySelection}
-use Rattle.waveforms.specs.Waveforms.{coupled, coupling, byOffset}
+use Rattle.waveforms.specs.Waveforms.{coupled, coupling}
+use Rattle.waveforms.specs.Offsets.{byOffset}
 
 coupling-same
     : (s t : ℕ)

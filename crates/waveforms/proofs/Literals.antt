@@ -1,4 +1,5 @@
--- A float literal of the code, which a need shows by its bits, is the decimal constant of specs/Constants.antt. Assumes nothing.
+-- A float literal of the code, which a need shows by its bits, is the decimal constant of specs/Constants.antt.
+-- Assumes nothing.
 use mathlib.Core.Path.{_≡_, refl}
 use lib.Ieee.{binary32, ofBits}
 use Rattle.waveforms.specs.Constants.{dec, 0·0, 1·0, 2·0, neighbourCoupling, pulseLoad, noiseLoad, triangleLoad, sawLoad, interactionGain}

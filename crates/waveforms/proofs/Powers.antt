@@ -1,4 +1,5 @@
--- Laws of `power`: what one call of the recursion does. Assumes nothing.
+-- One call of `power` halves the exponent and, where it is odd, multiplies the square in; at 0 it is done.
+-- Assumes nothing.
 use mathlib.Core.Path.{_≡_, refl, ap, sym, subst, _∙_}
 use mathlib.Core.Bool.{Bool, cond}
 use Prim.Native.Nat.{ℕ, zero, suc, _/_, _%_, _<_, _≤_}

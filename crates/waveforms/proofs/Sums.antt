@@ -1,4 +1,5 @@
--- Laws of `discharge`, taken for all twelve lines at once, and of `code`: none of the terms, and one term more. Assumes nothing.
+-- One source more for all twelve lines at once is one source more in each line's `discharge`, and one line more adds
+-- its bit to `code`. Assumes nothing.
 use mathlib.Core.Path.{_≡_, refl, ap, ap₂}
 use mathlib.Core.List.{List}
 use Prim.Native.Nat.{ℕ, zero, suc, _+_, _*_, _^_, _<_, _≤_}

@@ -1,5 +1,5 @@
--- The constants of line loading, as constants.rs has them. `dec n k` is the f32 nearest to n / 10 ^ k, which is how Rust reads a literal with k
--- digits behind the point; the underscore stands for the point.
+-- The constants of line loading, as constants.rs has them. `dec n k` is the f32 nearest to n / 10 ^ k, which is how
+-- Rust reads a literal with k digits behind the point; the underscore stands for the point.
 use Prim.Native.Nat.{ℕ, _%_, _^_}
 use mathlib.Core.Bool.{false}
 use mathlib.Core.List.{List, [], _∷_}

@@ -37,9 +37,10 @@ max x y = cond (le y x) x y
 unfoldable pub clamp : Float → Float → Float → Float
 clamp x low high = cond (lt x low) low (cond (lt high x) high x)
 
--- ---- 'The power of the distance decay starts from 1.0 and repeatedly halves the exponent, multiplying in the current square when the exponent is odd' (powi)
+-- ---- 'The power of the distance decay starts from 1.0 and repeatedly halves the exponent, multiplying in the current
+-- square when the exponent is odd' (powi)
 
--- k halvings of the exponent n, from `acc` on
+-- k halvings of the exponent n, from the product `acc` and the current square on
 unfoldable pub power : ℕ → Float → Float → ℕ → Float
 power zero acc square n = acc
 power (suc k) acc square n = power k (cond (eqb (n % 2) 1) (acc ⊗ square) acc) (square ⊗ square) (n / 2)
@@ -50,7 +51,7 @@ powi base n = power n 1·0 base n
 
 -- ---- the line array of a selection (LineArray::new)
 
--- the coupling of two lines so far apart
+-- the coupling of two lines so far apart, in a direction of 1.0 or -1.0
 unfoldable pub coupled : ℕ → Float → ℕ → Float
 coupled s direction distance =
     neighbourCoupling ⊗ powi (bySelection distanceDecays s) (distance - 1) ⊗ (1·0 ⊕ direction ⊗ bySelection directionalSkews s)
@@ -65,17 +66,14 @@ coupling s destination source =
 unfoldable pub loadIf : Bool → Float → Float
 loadIf on load = cond on load 0·0
 
+-- static_load: the loads of the selected waveforms, triangle, saw, pulse, noise
 unfoldable pub staticLoad : ℕ → Float
 staticLoad s =
     loadIf (eqb (s % 2) 1) triangleLoad ⊕ loadIf (eqb (s / 2 % 2) 1) sawLoad ⊕ loadIf (eqb (s / 4 % 2) 1) pulseLoad ⊕ loadIf (eqb (s / 8 % 2) 1) noiseLoad
 
--- 'one flat array of 144': that of source r and destination d stands at 12 r + d
+-- 'one flat array of 144': the coupling of source r and destination d stands at 12 r + d
 unfoldable pub arrayOf : ℕ → LineArray
 arrayOf s = record { selection = s; coupling = build (λ k. coupling s (k % 12) (k / 12)) 144; «static_load» = staticLoad s }
-
--- the couplings by how far the destination lies above the source, from -11 to 11, of which the 144 are made
-abbrev pub byOffset : ℕ → List Float
-byOffset s = build (λ k. coupling s k 11) 23
 
 -- ---- 'Three passes settle twelve line charges' (LineArray::settle)
 
@@ -83,34 +81,34 @@ byOffset s = build (λ k. coupling s k 11) 23
 unfoldable pub drivers : ℕ → ℕ
 drivers s = s % 2 + s / 2 % 2 + s / 4 % 2 + s / 8 % 2
 
--- source_excess
+-- source_excess: the waveforms beyond two
 unfoldable pub sourceExcess : ℕ → Float
 sourceExcess s = max (ofInt binary32 (pos (drivers s)) ⊖ 2·0) 0·0
 
--- interaction_scale
+-- interaction_scale: more waveforms pull harder
 unfoldable pub interactionScale : ℕ → Float
 interactionScale s = 1·0 ⊕ interactionGain ⊗ sourceExcess s ⊗ sourceExcess s
 
--- 1.0 where the value has the line
+-- a line's charge at the start: 1.0 where the value has the line, else 0.0
 unfoldable pub chargeAt : ℕ → ℕ → Float
 chargeAt value bit = ofInt binary32 (pos (value / 2 ^ bit % 2))
 
--- a line's discharge with one source more
+-- a line's discharge with one source more, which pulls by what it lacks of a full charge
 abbrev pub pulled : Float → Float → Float → Float
 pulled discharge previous coupling = discharge ⊕ (1·0 ⊖ previous) ⊗ coupling
 
--- the discharge of a line by its first n sources
+-- the discharge of a line by the static load and its first n sources, in this order
 unfoldable pub discharge : List Float → Float → List Float → ℕ → ℕ → Float
 discharge couplings load previous destination zero = load
 discharge couplings load previous destination (suc n) =
     pulled (discharge couplings load previous destination n) (getD previous n nan) (getD couplings (n * 12 + destination) nan)
 
--- a line at or below 0.0 stays
+-- what a pass leaves of a line: one at or below 0.0 stays, any other loses its discharge, scaled, within 0.0 to 1.0
 unfoldable pub drained : Float → Float → Float → Float → Float
 drained interaction loading previous discharge =
     cond (le previous 0·0) previous (clamp (previous ⊖ discharge ⊗ interaction ⊗ loading) 0·0 1·0)
 
--- all lines of a pass see the pass before
+-- one pass: every line sees the charges before it, `previous`
 unfoldable pub pass : List Float → Float → Float → Float → List Float → List Float
 pass couplings load interaction loading previous =
     build (λ d. drained interaction loading (getD previous d nan) (discharge couplings load previous d 12)) 12
@@ -124,22 +122,23 @@ unfoldable pub code : Float → List Float → ℕ → ℕ
 code threshold charges zero = 0
 code threshold charges (suc n) = code threshold charges n + retained threshold (getD charges n nan) n
 
--- the code that a value settles to on a line array's lines
+-- the code that a value settles to on a line array's lines (LineArray::settle)
 unfoldable pub settledBy : LineArray → ℕ → ℕ
 settledBy a value =
     code (bySelection retentionThresholds (a .selection))
     (times 3 (pass (a .coupling) (a .«static_load») (interactionScale (a .selection)) (bySelection loadingScales (a .selection))) (build (chargeAt value) 12)) 12
 
--- 'the settled i' of a selection
+-- 'the settled i' of a selection (the entry of LineArray::generate)
 unfoldable pub settled : ℕ → ℕ → ℕ
 settled s value = settledBy (arrayOf s) value
 
 -- ---- for the tick: the selection counts by its low four bits, the value by its low twelve
 
--- needs_line_loading
+-- two waveforms or more (needs_line_loading)
 unfoldable pub needsLoading : ℕ → Bool
 needsLoading s = ltb 1 (drivers s)
 
--- apply_line_loading: a single waveform passes unchanged. 'The voice doesn't load' the lines of selection 9: it doesn't ask
+-- a single waveform passes unchanged (apply_line_loading). That 'the voice doesn't load' the lines of selection 9 is
+-- the oscillator's rule: it doesn't ask
 unfoldable pub loaded : ℕ → ℕ → ℕ
 loaded s value = cond (needsLoading s) (settled s value) (value % 4096)

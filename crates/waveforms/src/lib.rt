@@ -20,7 +20,8 @@ ghost use Prim.Native.Nat.{_+_, _*_, _<_};
 ghost use lib.ListN.{getD};
 ghost use lib.Ieee.{nan};
 ghost use Rattle.laws.specs.Build.{build};
-ghost use Rattle.waveforms.specs.Waveforms.{triangle, max, clamp, power, powi, coupled, coupling, loadIf, staticLoad, arrayOf, byOffset, drivers, interactionScale, chargeAt, pulled, discharge, drained, pass, retained, code, settledBy, needsLoading, loaded};
+ghost use Rattle.waveforms.specs.Waveforms.{triangle, max, clamp, power, powi, coupled, coupling, loadIf, staticLoad, arrayOf, drivers, interactionScale, chargeAt, pulled, discharge, drained, pass, retained, code, settledBy, needsLoading, loaded};
+ghost use Rattle.waveforms.specs.Offsets.{byOffset};
 
 pub fn triangle_from_phase(phase: u16) -> u16
     ensures { λ r. ⌜ r ≡ triangle phase ⌝ }

@@ -1,5 +1,5 @@
--- A number and its bytes, both ways: the bytes that a number was read from are its own, and a number is read back from its bytes.
--- Assumes nothing.
+-- A number and its bytes, both ways: the bytes that a number was read from are its own, and a number is read back
+-- from its bytes. Assumes nothing.
 use Prim.Native.Nat.{ℕ, zero, suc, _+_, _*_, _/_, _%_, _^_, _≤_, _<_}
 use native.Mathlib.Omega.{arith}
 use native.Mathlib.Nat.{add-zero, pow-succ'}

@@ -1,4 +1,5 @@
--- Laws of `numberAt`. Assumes nothing.
+-- A number is its lower bytes and, by a power of 256, its upper ones; it is 0 where not all are there.
+-- Assumes nothing.
 use Prim.Native.Nat.{ℕ, zero, suc, _+_, _*_, _^_, _≤_, _<_}
 use native.Mathlib.Omega.{arith}
 use native.Mathlib.Nat.{zero-add, add-zero, suc-add, one-mul, mul-add, mul-assoc, pow-succ'}

@@ -1,3 +1,4 @@
+-- `bench_idle` gives what is heard of a fresh chip after so many clocks.
 use borrow.Author.Needs.{needs}
 use Rattle.bench.proofs.bench_idle.Statement.{statement}
 use Rattle.bench.proofs.bench_idle.Tie as tie

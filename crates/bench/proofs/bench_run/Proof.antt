@@ -1,3 +1,4 @@
+-- `bench_run` gives what is heard of a scene with this control byte after so many clocks.
 use borrow.Author.Needs.{needs}
 use Rattle.bench.proofs.bench_run.Statement.{statement}
 use Rattle.bench.proofs.bench_run.Tie as tie

@@ -1,3 +1,4 @@
+-- `bench_ticks` sums what is heard of a scene after each single clock, modulo 2^64.
 use native.Mathlib.Numerals.{add-one}
 use Prim.Native.Nat.{_-_, _≤_}
 use mathlib.Core.Path.{_≡_, refl}

@@ -1,3 +1,4 @@
+-- `bench_writes` gives what is heard of a fresh chip after so many seeded writes, each with the same clocks after it.
 use native.Mathlib.Numerals.{add-one}
 use native.Mathlib.Omega.{arith}
 use Prim.Native.Nat.{_-_, _≤_}

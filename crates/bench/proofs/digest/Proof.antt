@@ -1,3 +1,4 @@
+-- `digest` packs three codes and three levels into one number, and 64 bits hold it.
 use mathlib.Core.Path.{refl}
 use Rattle.bench.specs.Bench.{digest}
 use borrow.Author.Needs.{needs}

@@ -1,3 +1,4 @@
+-- `heard` is the digest of the codes and levels that the chip's three voices have.
 use Rattle.bench.specs.Bench.{heard}
 use borrow.Author.Needs.{needs}
 use Rattle.bench.proofs.heard.Statement.{statement}

@@ -1,3 +1,4 @@
+-- `next` is the seed's next number: times 25173, plus 13849, cut to 16 bits.
 use mathlib.Core.Path.{refl}
 use Rattle.bench.specs.Bench.{next}
 use borrow.Author.Needs.{needs}

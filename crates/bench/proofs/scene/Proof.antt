@@ -1,3 +1,4 @@
+-- `scene` is a fresh chip whose three voices have each its own frequency and all the same control byte.
 use Rattle.bench.specs.Bench.{scene}
 use borrow.Author.Needs.{needs}
 use Rattle.bench.proofs.scene.Statement.{statement}

@@ -1,3 +1,4 @@
+-- `tune` writes a voice's seven registers one after the other, its control register last.
 use Rattle.bench.specs.Bench.{tuned}
 use borrow.Author.Needs.{needs}
 use Rattle.bench.proofs.tune.Statement.{statement}

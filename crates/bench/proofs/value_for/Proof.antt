@@ -1,3 +1,4 @@
+-- `value_for` is the seed's upper byte, and for a control register a byte that selects one waveform at most.
 use borrow.Author.Tests.{eq-eqb, ne-eqb}
 use Rattle.bench.specs.Bench.{valueFor}
 use borrow.Author.Needs.{needs}

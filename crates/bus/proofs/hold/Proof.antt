@@ -1,3 +1,4 @@
+-- `hold` is the table's hold of a bit: its `max(1)` changes none, since every hold exceeds 0 (`hold-positive`).
 use borrow.Author.Needs.{needs}
 use native.Mathlib.Omega.{arith}
 use Rattle.bus.specs.Bus.{holds}

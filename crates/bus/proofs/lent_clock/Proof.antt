@@ -1,4 +1,4 @@
--- `bus::lent_clock` meets its contract, by the walk in Lent.antt of a bus that is lent to `clock`.
+-- `lent_clock` is a bus by value after one clock: the walk in Lent.antt of a bus lent to `clock`.
 use Rattle.bus.specs.Bus.{clocked}
 use Rattle.bus.proofs.Lent.{lending-meets}
 use Rattle.bus.proofs.InternalDataBus.clock.Symbol as method

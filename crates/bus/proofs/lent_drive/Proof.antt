@@ -1,4 +1,4 @@
--- `bus::lent_drive` meets its contract, by the walk in Lent.antt of a bus that is lent to `drive`.
+-- `lent_drive` is a bus driven with the byte, whatever came in: the walk in Lent.antt of a bus lent to `drive`.
 use Rattle.bus.proofs.Lent.{lent-drive-meets}
 use Rattle.bus.proofs.lent_drive.Key.{name}
 use Rattle.bus.proofs.lent_drive.Statement.{statement}

@@ -1,4 +1,4 @@
--- `bus::lent_read_driven` meets its contract, by the walk in Lent.antt of a bus that is lent to `read_driven`.
+-- `lent_read_driven` is the driven bus beside the byte: the walk in Lent.antt of a bus lent to `read_driven`.
 use Rattle.bus.proofs.Lent.{lent-read-driven-meets}
 use Rattle.bus.proofs.lent_read_driven.Key.{name}
 use Rattle.bus.proofs.lent_read_driven.Statement.{statement}

@@ -1,4 +1,4 @@
--- `bus::lent_read_floating` meets its contract, by the walk in Lent.antt of a bus that is lent to `read_floating`.
+-- `lent_read_floating` is the byte of a bus by value: the walk in Lent.antt of a bus lent to `read_floating`.
 use Rattle.bus.proofs.Lent.{lent-read-floating-meets}
 use Rattle.bus.proofs.lent_read_floating.Key.{name}
 use Rattle.bus.proofs.lent_read_floating.Statement.{statement}

@@ -1,4 +1,4 @@
--- `bus::lent_reset` meets its contract, by the walk in Lent.antt of a bus that is lent to `reset`.
+-- `lent_reset` is a fresh bus, whatever came in: the walk in Lent.antt of a bus lent to `reset`.
 use Rattle.bus.specs.Bus.{fresh}
 use Rattle.bus.proofs.Lent.{lending-meets}
 use Rattle.bus.proofs.InternalDataBus.reset.Symbol as method

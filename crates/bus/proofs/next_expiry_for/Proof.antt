@@ -1,3 +1,5 @@
+-- `next_expiry_for` gives the least hold above the age among the set bits, or the largest number if there is none.
+-- The least so far and the least of the bits to come give the whole in every turn (`expires`, `expired`, `unset`).
 use native.Mathlib.Omega.{arith}
 use Rattle.bus.specs.Bus.{holds, noExpiry, nextExpiry}
 use Prim.Native.Nat.{_-_, _≤_, min}

@@ -1,3 +1,5 @@
+-- `retained` keeps exactly the set bits whose hold exceeds the age.
+-- What is made so far and what is still to come add up to `kept` in every turn (`stays`, `goes`).
 use native.Mathlib.Omega.{arith}
 use Rattle.bus.specs.Bus.{holds, kept}
 use Prim.Native.Nat.{_+_, _-_, _*_, _^_, _≤_}

@@ -1,3 +1,4 @@
+-- `clocks` comes to an end: each turn clocks the bus and takes one off the clocks that are left.
 use borrow.Author.Needs.{needs}
 use Rattle.bus_cases.proofs.clocks.Statement.{statement}
 use Rattle.bus_cases.proofs.clocks.Tie as tie

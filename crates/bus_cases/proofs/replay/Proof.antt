@@ -1,3 +1,4 @@
+-- `replay` reads its records of 15 bytes within the list only, and comes to an end.
 use Prim.Native.Nat.{_+_, _*_, _≤_}
 use lib.ListN.{length}
 use borrow.Author.Needs.{needs}

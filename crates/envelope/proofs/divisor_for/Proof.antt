@@ -1,3 +1,4 @@
+-- `divisor_for` is 1 at 0xff and 0x00; 2, 4, 8, 16, 30 at 0x5d, 0x36, 0x1a, 0x0e, 0x06; 0 at any other level.
 use borrow.Author.Tests.{ne-eqb}
 use Rattle.envelope.specs.Envelope.{divisorFor}
 use Rattle.envelope.proofs.divisor_for.Statement.{statement}

@@ -1,3 +1,4 @@
+-- `envelope_rate_period` is the table's period for the rate's low four bits.
 use borrow.Author.Needs.{needs}
 use mathlib.Core.Path.{refl}
 use Rattle.envelope.specs.Envelope.{periodOf, periods}

@@ -1,3 +1,4 @@
+-- `replay` cuts its records of 21 bytes from within the list only, and comes to an end.
 use Prim.Native.Nat.{_+_, _*_, _≤_}
 use lib.ListN.{length}
 use borrow.Author.Needs.{needs}

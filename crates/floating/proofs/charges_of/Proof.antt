@@ -1,3 +1,4 @@
+-- `charges_of` gives each of the twelve lines a full charge where the code has its bit, else none.
 use borrow.Author.Needs.{needs}
 use borrow.Author.Tests.{eq-eqb, ne-eqb}
 use native.Mathlib.Omega.{arith}

@@ -1,3 +1,4 @@
+-- `leak_step` takes a twelfth, and at least one, from each of the twelve charges.
 use borrow.Author.Needs.{needs}
 use native.Mathlib.Omega.{arith}
 use Prim.Native.Nat.{_-_}

@@ -1,3 +1,4 @@
+-- `leak_steps` makes exactly so many leak steps of the twelve charges, one after the other.
 use borrow.Author.Needs.{needs}
 use native.Mathlib.Numerals.{add-one}
 use Prim.Native.Nat.{_-_, _≤_}

@@ -1,3 +1,4 @@
+-- `leaked` is the lines with these charges, showing those still high; with none left no leak is to come.
 use borrow.Author.Needs.{needs}
 use borrow.Author.Tests.{eq-eqb, ne-eqb}
 use mathlib.Core.Path.{sym}

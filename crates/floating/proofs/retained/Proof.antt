@@ -1,3 +1,4 @@
+-- `retained` is the code of the lines whose charge is at least 18,000.
 use borrow.Author.Needs.{needs}
 use borrow.Author.Tests.{le-leb, lt-leb}
 use native.Mathlib.Numerals.{add-one}

@@ -1,3 +1,5 @@
+-- `put_decimal` puts the decimal digits of a number at a place, with no leading zero, and gives the place after them.
+-- By `decimal-more` the digits before the last are those of n / 10, which is below n: so the recursion ends.
 use borrow.Author.Needs.{needs}
 use borrow.Fn.Kinds.{In}
 use borrow.Fn.PlainCycle.{Measures, is, falls, and}

@@ -1,3 +1,4 @@
+-- `copy_into` copies bytes that fit and gives true; where they don't it gives false, and the buffer is as it was.
 use borrow.Author.Needs.{needs}
 use native.Mathlib.Omega.{arith}
 use Rattle.listing.proofs.Joins.{no-room, room}

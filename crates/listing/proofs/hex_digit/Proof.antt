@@ -1,3 +1,4 @@
+-- `hex_digit` is the lower-case hex digit of a number below 16.
 use borrow.Author.Needs.{needs}
 use borrow.Author.Tests.{lt-ltb, le-ltb}
 use Rattle.listing.specs.Text.{hexDigit}

@@ -1,3 +1,4 @@
+-- `levels_line` puts `L stamp` with code and level of voices 0 to 2 at the buffer's start, and gives the line's length.
 use borrow.Author.Needs.{needs}
 use native.Mathlib.Omega.{arith}
 use Rattle.listing.specs.Text.{levelsLine}

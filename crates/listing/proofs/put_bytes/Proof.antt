@@ -1,3 +1,4 @@
+-- `put_bytes` puts bytes at a place, leaves all others, and gives the place after them.
 use borrow.Author.Needs.{needs}
 use native.Mathlib.Omega.{arith}
 use Prim.Native.Nat.{_-_, _≤_}

@@ -1,3 +1,4 @@
+-- `put_hex2` puts the two hex digits of a byte at a place, the upper half first.
 use borrow.Author.Needs.{needs}
 use native.Mathlib.Omega.{arith}
 use Rattle.listing.specs.Text.{hex2}

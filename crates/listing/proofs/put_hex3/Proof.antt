@@ -1,3 +1,4 @@
+-- `put_hex3` puts the three hex digits of a number's low twelve bits at a place, the upper ones first.
 use borrow.Author.Needs.{needs}
 use native.Mathlib.Omega.{arith}
 use Rattle.listing.specs.Text.{hex3}

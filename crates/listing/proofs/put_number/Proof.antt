@@ -1,3 +1,4 @@
+-- `put_number` puts the decimal digits of any 64-bit number, which are at most 20 (`decimal-twenty`).
 use borrow.Author.Needs.{needs}
 use native.Mathlib.Omega.{arith}
 use Rattle.listing.proofs.Joins.{decimal-twenty}

@@ -1,3 +1,4 @@
+-- `put_opening` puts a line's letter, a space and its stamp at the buffer's start, at most 22 bytes.
 use borrow.Author.Needs.{needs}
 use native.Mathlib.Omega.{arith}
 use Rattle.listing.specs.Text.{opening}

@@ -1,3 +1,4 @@
+-- `put_spaced` puts a space and the two hex digits of a byte at a place.
 use borrow.Author.Needs.{needs}
 use native.Mathlib.Omega.{arith}
 use Rattle.listing.specs.Text.{spaced}

@@ -1,3 +1,4 @@
+-- `put_voice` puts a voice's code, three hex digits, and its level, two, each after a space.
 use borrow.Author.Needs.{needs}
 use native.Mathlib.Omega.{arith}
 use Rattle.listing.specs.Text.{voice}

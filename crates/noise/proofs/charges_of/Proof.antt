@@ -1,3 +1,4 @@
+-- `charges_of` gives each of the 23 stages a full charge where its bit is set, else none.
 use borrow.Author.Needs.{needs}
 use borrow.Author.Tests.{eq-eqb, ne-eqb}
 use native.Mathlib.Omega.{arith}

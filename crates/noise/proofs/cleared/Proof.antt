@@ -1,3 +1,4 @@
+-- `cleared` clears the stages of the low lines and no other bit.
 use borrow.Author.Needs.{needs}
 use native.Mathlib.Numerals.{add-one}
 use native.Mathlib.Omega.{arith}

@@ -1,3 +1,4 @@
+-- `couple` takes a fourteenth, and at least one, from the lent charge of each low line's stage, and from no other.
 use denote.Ref.{now}
 use borrow.Author.Needs.{needs}
 use native.Mathlib.Numerals.{add-one}

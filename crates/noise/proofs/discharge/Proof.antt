@@ -1,3 +1,4 @@
+-- `discharge` empties the lent charge of each low line's stage, and no other.
 use denote.Ref.{now}
 use Rattle.laws.proofs.Loops.{ended}
 use Prim.Native.Nat.{_-_, _≤_}

@@ -1,3 +1,4 @@
+-- `has_come` is true exactly for a time that is set and not after the cycle.
 use borrow.Author.Tests.{eq-eqb, ne-eqb}
 use Rattle.noise.specs.Noise.{come}
 use Rattle.noise.proofs.has_come.Statement.{statement}

@@ -1,3 +1,4 @@
+-- `project` shows the eight tapped stages on lines 11 down to 4.
 use borrow.Author.Needs.{needs}
 use native.Mathlib.Numerals.{add-one}
 use native.Mathlib.Omega.{arith}

@@ -1,3 +1,4 @@
+-- `recovered` adds a twenty-third of what a charge lacks, and at least one; a full charge stays.
 use borrow.Author.Needs.{needs}
 use borrow.Author.Tests.{le-ltb, lt-ltb}
 use native.Mathlib.Omega.{arith}

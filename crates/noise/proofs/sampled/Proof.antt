@@ -1,3 +1,4 @@
+-- `sampled` is the stages whose charge is at least 32,768, a logic 1.
 use borrow.Author.Needs.{needs}
 use borrow.Author.Tests.{le-leb, lt-leb}
 use native.Mathlib.Numerals.{add-one}

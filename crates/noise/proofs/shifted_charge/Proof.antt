@@ -1,3 +1,5 @@
+-- `shifted_charge` moves every charge one stage down, and puts the incoming one into stage 22.
+-- By `moved`: the loop copies within one array, each entry from one place up; `shut` stores the last.
 use borrow.Author.Needs.{needs}
 use native.Mathlib.Omega.{arith}
 use Prim.Native.Nat.{_+_, _-_, _≤_, ℕ}

@@ -1,3 +1,4 @@
+-- `shifted_state` moves every stage one down, and stage 0 xor stage 5 into stage 22.
 use borrow.Author.Needs.{needs}
 use native.Mathlib.Omega.{arith}
 use Prim.Native.Nat.{_*_, _%_, _/_, _^_}

@@ -1,3 +1,4 @@
+-- `tap` is the stage that shows on a line, and lies below 23.
 use borrow.Author.Needs.{needs}
 use native.Mathlib.Omega.{arith}
 use mathlib.Core.Path.{refl}

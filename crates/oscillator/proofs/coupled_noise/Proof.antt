@@ -1,3 +1,4 @@
+-- `coupled_noise` drains the register's charges by the code where the voice couples, and else leaves it.
 use borrow.Author.Needs.{needs}
 use mathlib.Core.Path.{_∙_, sym}
 use Rattle.oscillator.specs.Oscillator.{coupledNoise}

@@ -1,3 +1,4 @@
+-- `exit_loaded` pulls the register down by the last code where a driver stays connected as test is left.
 use borrow.Author.Needs.{needs}
 use borrow.Author.Tests.{eq-eqb, ne-eqb}
 use Rattle.oscillator.specs.Oscillator.{exitLoaded}

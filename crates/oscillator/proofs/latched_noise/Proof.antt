@@ -1,3 +1,4 @@
+-- `latched_noise` is the register after a latch: the coupling, and then the pull-down.
 use borrow.Author.Needs.{needs}
 use Rattle.oscillator.specs.Oscillator.{latchedNoise}
 use Rattle.oscillator.proofs.latched_noise.Statement.{statement}

@@ -1,3 +1,4 @@
+-- `pulled_noise` pulls the register down by the code where the voice does so on this cycle, and else leaves it.
 use borrow.Author.Needs.{needs}
 use mathlib.Core.Path.{_∙_, sym}
 use Rattle.oscillator.specs.Oscillator.{pulledNoise}

@@ -1,3 +1,4 @@
+-- `sampled_bus` samples the floating lines where nothing is selected, and else leaves them.
 use borrow.Author.Needs.{needs}
 use mathlib.Core.Path.{ap, _∙_, sym}
 use Rattle.oscillator.specs.Oscillator.{sampledBus}

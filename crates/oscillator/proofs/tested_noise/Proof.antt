@@ -1,3 +1,4 @@
+-- `tested_noise` enters test or leaves it, the exit's load first, where the bit changes; else the register stays.
 use borrow.Author.Needs.{needs}
 use Rattle.oscillator.specs.Oscillator.{testedNoise}
 use Rattle.oscillator.proofs.tested_noise.Statement.{statement}

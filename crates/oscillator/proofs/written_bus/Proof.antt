@@ -1,3 +1,4 @@
+-- `written_bus` captures the last code where waveform 0 is newly selected, and resets the lines where another is.
 use borrow.Author.Needs.{needs}
 use borrow.Author.Tests.{eq-eqb, ne-eqb}
 use Rattle.oscillator.specs.Oscillator.{writtenBus}

@@ -1,3 +1,4 @@
+-- `line_charges` stores within its array of twelve only, and no place that it reads overflows.
 use borrow.Author.Needs.{needs}
 use Prim.Native.Nat.{_-_, _≤_}
 use mathlib.Core.Path.{_≡_}

@@ -1,3 +1,4 @@
+-- `run` comes to an end: each turn ticks the oscillator and takes one off the clocks that are left.
 use borrow.Author.Needs.{needs}
 use Rattle.oscillator_cases.proofs.run.Statement.{statement}
 use Rattle.oscillator_cases.proofs.run.Tie as tie

@@ -1,3 +1,4 @@
+-- `stage_charges` stores within its array of 23 only, and no place that it reads overflows.
 use borrow.Author.Needs.{needs}
 use Prim.Native.Nat.{_-_, _≤_}
 use mathlib.Core.Path.{_≡_}

@@ -1,3 +1,4 @@
+-- `with_stages` reads within its array of 23 only, and comes to an end.
 use borrow.Author.Needs.{needs}
 use Prim.Native.Nat.{_-_, _≤_}
 use Rattle.oscillator_cases.proofs.with_stages.Statement.{statement}

@@ -1,6 +1,8 @@
--- `field` meets its contract: a walk of its MIR, by hand. The struct is taken apart, and `score::field_at` is called on the slice and the number;
--- of it the proof knows only that it meets its contract. The struct is Copy: what it owns is had twice, one copy is kept whole for the exit, and of the
--- other what src owns goes to the callee, beside the lifetime's token, which comes back. Assumes nothing.
+-- `field` reads what stands at the reader's place in its bytes, by `fieldAt`.
+-- A walk of its MIR, by hand. The struct is taken apart, and `score::field_at` is called on the slice and the number;
+-- of it the proof knows only that it meets its contract. The struct is Copy: what it owns is had twice, one copy is
+-- kept whole for the exit, and of the other what src owns goes to the callee, beside the lifetime's token, which
+-- comes back. Assumes nothing.
 use mathlib.Core.Path.{_≡_, refl}
 use Prim.Native.Nat.{_<_, _^_}
 use mathlib.Core.List.{[], _∷_}

@@ -1,6 +1,8 @@
--- `read_field` meets its contract: a walk of its MIR, by hand. The `Reader` that `reader_at` returns is held in a local and passed to `field`; of both
--- the proof knows only that each meets its contract. In a local of a body MIR erases the lifetime of the struct's type, so the value is shown to have
--- the type at `erased`: what the struct owns does not say the lifetime's name. Assumes nothing.
+-- `read_field` reads what stands at a place of a slice, by `fieldAt`, through a reader made there.
+-- A walk of its MIR, by hand. The `Reader` that `reader_at` returns is held in a local and passed to `field`; of both
+-- the proof knows only that each meets its contract. In a local of a body MIR erases the lifetime of the struct's
+-- type, so the value is shown to have the type at `erased`: what the struct owns does not say the lifetime's name.
+-- Assumes nothing.
 use mathlib.Core.Path.{_≡_, refl, ap, _∙_}
 use Prim.Native.Nat.{ℕ, _<_, _^_}
 use mathlib.Core.List.{List, [], _∷_}

@@ -1,3 +1,4 @@
+-- `clock_times` is the envelope after exactly n clocks.
 use borrow.Author.Needs.{needs}
 use native.Mathlib.Omega.{arith}
 use Prim.Native.Nat.{ℕ, _≤_, _-_}

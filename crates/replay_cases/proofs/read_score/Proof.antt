@@ -1,3 +1,4 @@
+-- `read_score` counts bytes that stand at the buffer's start, never more than the buffer has.
 use borrow.Author.Needs.{needs}
 use native.Mathlib.Omega.{arith}
 use mathlib.Core.Path.{sym}

@@ -1,3 +1,4 @@
+-- `replay` comes to an end, with the input or after 65,536 scores, and prints only what the buffer holds.
 use borrow.Author.Needs.{needs}
 use native.Mathlib.Omega.{arith}
 use Prim.Native.Nat.{_-_, _≤_}

@@ -1,3 +1,4 @@
+-- `replay_input` comes to an end, with the input or after 2^20 parts, and replays only the bytes read.
 use borrow.Author.Needs.{needs}
 use mathlib.Core.Path.{_≡_}
 use lib.ListN.{length}

@@ -1,3 +1,4 @@
+-- `ticked` comes to an end: each turn ticks the chip and takes one off the clocks that are left.
 use borrow.Author.Needs.{needs}
 use Rattle.sid_cases.proofs.ticked.Statement.{statement}
 use Rattle.sid_cases.proofs.ticked.Tie as tie

@@ -1,3 +1,4 @@
+-- `watched` comes to an end: each turn ticks the chip, reads it, and takes one off the clocks that are left.
 use borrow.Author.Needs.{needs}
 use Rattle.sid_cases.proofs.watched.Statement.{statement}
 use Rattle.sid_cases.proofs.watched.Tie as tie

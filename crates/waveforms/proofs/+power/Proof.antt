@@ -1,3 +1,5 @@
+-- `power` multiplies in the current square wherever the exponent, halved from call to call, is odd.
+-- By `power-odd` and `power-even`: any number of halvings that is the exponent or more gives the same.
 use mathlib.Core.Path.{sym, _∙_}
 use Prim.Native.Nat.{ℕ, _<_}
 use native.Mathlib.Omega.{arith}

@@ -1,3 +1,4 @@
+-- `add_source` adds one source's pull to the discharge of every line.
 use mathlib.Core.List.{List}
 use Prim.Native.Nat.{ℕ, _+_, _-_, _*_}
 use denote.Ref.{now}

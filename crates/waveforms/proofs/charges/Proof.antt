@@ -1,3 +1,4 @@
+-- `charges` is 1.0 for each line that the value has, and 0.0 for the others.
 use mathlib.Core.Path.{refl}
 use Prim.Native.Nat.{_-_}
 use borrow.Author.Needs.{needs}

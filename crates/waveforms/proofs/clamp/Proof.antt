@@ -1,3 +1,4 @@
+-- `clamp` is low below low, high above high, and else the number itself, NaN and -0.0 too.
 use Rattle.waveforms.specs.Waveforms.{clamp}
 use Rattle.waveforms.proofs.clamp.Statement.{statement}
 use Rattle.waveforms.proofs.clamp.Tie as tie

@@ -1,3 +1,4 @@
+-- `code` sets the bit of each of the twelve lines that is at the threshold or above.
 use mathlib.Core.Path.{_≡_}
 use Prim.Native.Nat.{_-_, _≤_}
 use native.Mathlib.Omega.{arith}

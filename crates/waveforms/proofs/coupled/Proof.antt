@@ -1,3 +1,4 @@
+-- `coupled` is the neighbour's coupling, times the decay to the power of the distance less 1, times the skew.
 use lib.Ieee.{ofBits}
 use borrow.Author.Needs.{needs}
 use Rattle.waveforms.specs.Constants.{dec, directionalSkews, distanceDecays}

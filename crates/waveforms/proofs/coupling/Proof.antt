@@ -1,3 +1,4 @@
+-- `coupling` is 0.0 of a line with itself, else `coupled` at their distance, by -1.0 where the source is the lower.
 use mathlib.Core.Path.{ap, _∙_}
 use Prim.Native.Nat.{_-_}
 use lib.Ieee.{Float, neg}

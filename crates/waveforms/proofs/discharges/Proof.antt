@@ -1,3 +1,5 @@
+-- `discharges` is every line's load and its twelve sources, added in the Rust's order.
+-- By `discharge-more`: one source more for all lines at once is one source more for each.
 use mathlib.Core.Path.{_≡_, _∙_}
 use Prim.Native.Nat.{_-_, _≤_}
 use native.Mathlib.Omega.{arith}

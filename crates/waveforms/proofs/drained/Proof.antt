@@ -1,3 +1,4 @@
+-- `drained` leaves a line at or below 0.0, and takes the scaled discharge off any other, within 0.0 to 1.0.
 use borrow.Author.Needs.{needs}
 use Rattle.waveforms.specs.Waveforms.{drained}
 use Rattle.waveforms.proofs.Literals.{is-zero, is-one}

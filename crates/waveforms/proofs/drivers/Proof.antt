@@ -1,3 +1,4 @@
+-- `drivers` counts the waveforms in a selection's low four bits.
 use mathlib.Core.Path.{refl}
 use borrow.Author.Needs.{needs}
 use Rattle.waveforms.specs.Waveforms.{drivers}

@@ -1,3 +1,4 @@
+-- `interaction_scale` is 1.0 plus the gain times the square of the number of waveforms beyond two.
 use borrow.Author.Needs.{needs}
 use Rattle.waveforms.specs.Waveforms.{sourceExcess, interactionScale}
 use Rattle.waveforms.proofs.Literals.{is-zero, is-one, is-two, is-interaction-gain}

@@ -1,3 +1,4 @@
+-- `load_if` is the load where the waveform is selected, else 0.0.
 use Rattle.waveforms.specs.Waveforms.{loadIf}
 use Rattle.waveforms.proofs.Literals.{is-zero}
 use Rattle.waveforms.proofs.load_if.Statement.{statement}

@@ -1,3 +1,4 @@
+-- `max` is the first number where it is at least the second, else the second, so that a first NaN gives way.
 use Rattle.waveforms.specs.Waveforms.{max}
 use Rattle.waveforms.proofs.max.Statement.{statement}
 use Rattle.waveforms.proofs.max.Tie as tie

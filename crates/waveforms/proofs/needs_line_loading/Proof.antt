@@ -1,3 +1,4 @@
+-- `needs_line_loading` is true exactly with two waveforms or more in the low four bits.
 use mathlib.Core.Path.{ap}
 use lib.Dec.{ltb}
 use borrow.Author.Needs.{needs}

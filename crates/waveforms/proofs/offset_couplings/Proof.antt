@@ -1,3 +1,4 @@
+-- `offset_couplings` works out the 23 couplings, by how far the destination lies above the source.
 use mathlib.Core.Path.{refl}
 use Prim.Native.Nat.{ℕ, _-_}
 use lib.Ieee.{Float}

@@ -1,3 +1,4 @@
+-- `pass` drains every line once, each by the charges before the pass.
 use mathlib.Core.Path.{_∙_}
 use mathlib.Core.List.{List}
 use Prim.Native.Nat.{ℕ, _-_}

@@ -1,3 +1,4 @@
+-- `powi` is the power by halved exponents, from 1.0 on.
 use mathlib.Core.Path.{ap, _∙_}
 use lib.Ieee.{Float}
 use borrow.Author.Needs.{needs}

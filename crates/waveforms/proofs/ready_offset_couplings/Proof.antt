@@ -1,3 +1,5 @@
+-- `ready_offset_couplings` is the same 23 couplings, to the bit, out of three tables of literals.
+-- All selections but 3 and 5 share a table (`coupling-other`); each table is computed and compared entry by entry.
 use mathlib.Core.Path.{refl, sym}
 use lib.Ieee.{ofBits, neg, add, mul}
 use Rattle.laws.specs.Build.{build}

@@ -1,3 +1,4 @@
+-- `retained` is the line's bit where its charge is at the threshold or above, else 0.
 use mathlib.Core.Path.{_∙_}
 use Prim.Native.Nat.{_^_}
 use native.Mathlib.Omega.{arith}

@@ -1,3 +1,4 @@
+-- `settled_code` settles the value for two waveforms or more, and else gives its low twelve bits.
 use mathlib.Core.Path.{sym, _∙_}
 use borrow.Author.Needs.{needs}
 use Rattle.waveforms.specs.Waveforms.{settled, loaded}

@@ -1,3 +1,4 @@
+-- `static_load` is the loads of the selected waveforms, added from triangle to noise.
 use borrow.Author.Needs.{needs}
 use Rattle.waveforms.specs.Waveforms.{staticLoad}
 use Rattle.waveforms.proofs.Literals.{is-pulse-load, is-noise-load, is-triangle-load, is-saw-load}

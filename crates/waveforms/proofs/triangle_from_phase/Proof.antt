@@ -1,3 +1,4 @@
+-- `triangle_from_phase` doubles the low twelve bits, complemented above 0x7ff.
 use borrow.Author.Needs.{needs}
 use borrow.Author.Tests.{lt-ltb, le-ltb}
 use Rattle.waveforms.specs.Waveforms.{triangle}

@@ -1,3 +1,4 @@
+-- `entries` comes to an end at the place told, and its counter does not overflow.
 use Prim.Native.Nat.{_-_}
 use borrow.Author.Needs.{needs}
 use Rattle.waveforms_cases.proofs.entries.Statement.{statement}

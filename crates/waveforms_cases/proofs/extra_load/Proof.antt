@@ -1,3 +1,4 @@
+-- `extra_load` makes an f32 of 24 bits without rounding: a float holds each such number.
 use Prim.Native.Nat.{_%_, _^_}
 use native.Mathlib.Omega.{arith}
 use lib.Dec.{le→leb}

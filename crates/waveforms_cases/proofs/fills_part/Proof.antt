@@ -1,3 +1,4 @@
+-- `fills_part` lends a part that lies within the table, whatever length is asked for.
 use mathlib.Core.Path.{sym}
 use native.Mathlib.Omega.{arith}
 use borrow.Author.Needs.{needs}

@@ -1,3 +1,4 @@
+-- `prepare` stores within the table only, keeps its length, and comes to an end.
 use mathlib.Core.Path.{_≡_}
 use Prim.Native.Nat.{_≤_}
 use native.Mathlib.Omega.{arith}

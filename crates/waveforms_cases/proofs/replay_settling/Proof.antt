@@ -1,3 +1,4 @@
+-- `replay_settling` reads its records of 9 bytes within the list only, and comes to an end.
 use Prim.Native.Nat.{_+_, _*_, _≤_}
 use lib.ListN.{length}
 use borrow.Author.Needs.{needs}

@@ -1,3 +1,4 @@
+-- `replay_waveforms` reads its records of 6 bytes within the list only; the table keeps its length, and it ends.
 use mathlib.Core.Path.{_≡_}
 use Prim.Native.Nat.{_+_, _*_, _≤_}
 use lib.ListN.{length}

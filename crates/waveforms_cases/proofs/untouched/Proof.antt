@@ -1,3 +1,4 @@
+-- `untouched` reads within the table only, and comes to an end.
 use Prim.Native.Nat.{_≤_}
 use lib.ListN.{length}
 use borrow.Author.Needs.{needs}

@@ -1,3 +1,4 @@
+-- `u16_at` is the number in two bytes, the lower first, and 0 where they are not both there.
 use borrow.Author.Needs.{needs}
 use native.Mathlib.Omega.{arith}
 use Prim.Native.Nat.{_+_}

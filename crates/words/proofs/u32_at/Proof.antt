@@ -1,3 +1,4 @@
+-- `u32_at` is the number in four bytes, two halves of `u16_at`, and 0 where they are not all there.
 use borrow.Author.Needs.{needs}
 use native.Mathlib.Omega.{arith}
 use Prim.Native.Nat.{_+_}

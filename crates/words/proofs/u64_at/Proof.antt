@@ -1,3 +1,4 @@
+-- `u64_at` is the number in eight bytes, two halves of `u32_at`, and 0 where they are not all there.
 use borrow.Author.Needs.{needs}
 use native.Mathlib.Omega.{arith}
 use Prim.Native.Nat.{_+_}

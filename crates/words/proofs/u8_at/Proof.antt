@@ -1,3 +1,4 @@
+-- `u8_at` is the byte at a place, and 0 past the end.
 use borrow.Author.Needs.{needs}
 use native.Mathlib.Omega.{arith}
 use mathlib.Core.Path.{sym}

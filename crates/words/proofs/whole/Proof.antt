@@ -1,3 +1,4 @@
+-- `whole` is true exactly where so many bytes stand from the place on; it subtracts, so that no sum overflows.
 use borrow.Author.Needs.{needs}
 use borrow.Author.Tests.{le-leb, lt-leb}
 use native.Mathlib.Omega.{arith}

@@ -1,4 +1,4 @@
--- `bus::InternalDataBus::clock` meets its contract, by the walk of `*self = InternalDataBus::clocked(*self);` in Methods.antt.
+-- `InternalDataBus::clock` clocks the lent bus once where it stands: a walk of its line in Methods.antt.
 use Rattle.bus.proofs.Methods.{clock-meets}
 use Rattle.bus.proofs.InternalDataBus.clock.Key.{name}
 use Rattle.bus.proofs.InternalDataBus.clock.Statement.{statement}

@@ -1,3 +1,4 @@
+-- `InternalDataBus::clocked` ages a byte that is not 0 by one clock; its bits go only once the next expiry has come.
 use mathlib.Core.Path.{sym}
 use Rattle.bus.proofs.Clock.{clocked-empty, clocked-before, clocked-at}
 use borrow.Author.Needs.{needs}

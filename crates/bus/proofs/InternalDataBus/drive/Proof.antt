@@ -1,4 +1,4 @@
--- `bus::InternalDataBus::drive` meets its contract, by the walk of `*self = InternalDataBus::driven(value);` in Methods.antt.
+-- `InternalDataBus::drive` leaves the lent bus driven with the byte, its age 0: a walk of its line in Methods.antt.
 use Rattle.bus.proofs.Methods.{drive-meets}
 use Rattle.bus.proofs.InternalDataBus.drive.Key.{name}
 use Rattle.bus.proofs.InternalDataBus.drive.Statement.{statement}

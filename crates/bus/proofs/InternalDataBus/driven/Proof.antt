@@ -1,3 +1,4 @@
+-- `InternalDataBus::driven` is a bus with this byte, age 0, and the least hold of a set bit as its next expiry.
 use Rattle.bus.specs.Bus.{driven}
 use borrow.Author.Needs.{needs}
 use Rattle.bus.proofs.InternalDataBus.driven.Statement.{statement}

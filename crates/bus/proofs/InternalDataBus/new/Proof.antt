@@ -1,3 +1,4 @@
+-- `InternalDataBus::new` is a bus with byte 0, age 0 and no expiry to come.
 use mathlib.Core.Path.{refl}
 use Rattle.bus.specs.Bus.{fresh}
 use Rattle.bus.proofs.InternalDataBus.new.Statement.{statement}

@@ -1,4 +1,4 @@
--- `bus::InternalDataBus::read_driven` meets its contract, by the walk of `*self = InternalDataBus::driven(value); value` in Methods.antt.
+-- `InternalDataBus::read_driven` gives the byte and leaves the lent bus driven with it: a walk in Methods.antt.
 use Rattle.bus.proofs.Methods.{read-driven-meets}
 use Rattle.bus.proofs.InternalDataBus.read_driven.Key.{name}
 use Rattle.bus.proofs.InternalDataBus.read_driven.Statement.{statement}

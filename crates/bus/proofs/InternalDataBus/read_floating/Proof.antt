@@ -1,4 +1,4 @@
--- `bus::InternalDataBus::read_floating` meets its contract, by the walk of `self.value` in Methods.antt.
+-- `InternalDataBus::read_floating` gives the byte of a shared bus, which nothing renews: a walk in Methods.antt.
 use Rattle.bus.proofs.Methods.{read-floating-meets}
 use Rattle.bus.proofs.InternalDataBus.read_floating.Key.{name}
 use Rattle.bus.proofs.InternalDataBus.read_floating.Statement.{statement}

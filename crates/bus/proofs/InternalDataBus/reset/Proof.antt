@@ -1,4 +1,4 @@
--- `bus::InternalDataBus::reset` meets its contract, by the walk of `*self = InternalDataBus::new();` in Methods.antt.
+-- `InternalDataBus::reset` leaves the lent bus fresh, whatever it held: a walk of its line in Methods.antt.
 use Rattle.bus.proofs.Methods.{reset-meets}
 use Rattle.bus.proofs.InternalDataBus.reset.Key.{name}
 use Rattle.bus.proofs.InternalDataBus.reset.Statement.{statement}

@@ -1,3 +1,4 @@
+-- `Tally::count` counts one answer more, and one that differs too; of these it keeps which was the first.
 use borrow.Author.Tests.{eq-eqb, ne-eqb}
 use borrow.Author.Needs.{needs}
 use Rattle.cases.proofs.Tally.count.Statement.{statement}

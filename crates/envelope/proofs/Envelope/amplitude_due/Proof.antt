@@ -1,3 +1,4 @@
+-- `Envelope::amplitude_due` steps the level where its delay has run out and it is not held.
 use borrow.Author.Tests.{eq-eqb, ne-eqb}
 use Rattle.envelope.specs.Envelope.{amplitudeDue}
 use borrow.Author.Needs.{needs}

@@ -1,3 +1,5 @@
+-- `Envelope::clock` is one clock by the rules, whether it goes the short way or the long.
+-- The short way by `quiet-clock`: where nothing is under way, only the rate counter's part does anything.
 use mathlib.Core.Path.{_∙_, sym}
 use Rattle.envelope.specs.Envelope.{clocked, quiescent}
 use Rattle.envelope.proofs.Quiet.{quiet-clock}

@@ -1,3 +1,4 @@
+-- `Envelope::clock_amplitude_path` counts a level delay down; as it ends, the level steps unless held.
 use borrow.Author.Tests.{eq-eqb, ne-eqb}
 use Rattle.envelope.specs.Envelope.{amplitudeClocked}
 use borrow.Author.Needs.{needs}

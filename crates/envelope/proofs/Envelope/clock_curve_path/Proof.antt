@@ -1,3 +1,4 @@
+-- `Envelope::clock_curve_path` counts a curve delay down; as it ends, the count is 0 and a level change may fall due.
 use borrow.Author.Tests.{eq-eqb, ne-eqb}
 use Rattle.envelope.specs.Envelope.{curveClocked}
 use borrow.Author.Needs.{needs}

@@ -1,3 +1,4 @@
+-- `Envelope::clock_quiet` takes the level into the readback and clocks the rate counter: the short way alone.
 use borrow.Author.Needs.{needs}
 use Rattle.envelope.proofs.Envelope.clock_quiet.Statement.{statement}
 use Rattle.envelope.proofs.Envelope.clock_quiet.Tie as tie

@@ -1,3 +1,4 @@
+-- `Envelope::clock_rate_sequence` sets the match at the target; elsewhere the phase goes up one, 32767 becoming 0.
 use borrow.Author.Needs.{needs}
 use borrow.Author.Tests.{eq-eqb, ne-eqb}
 use Rattle.envelope.specs.Envelope.{rateClocked, phaseUp}

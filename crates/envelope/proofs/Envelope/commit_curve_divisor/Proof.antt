@@ -1,3 +1,4 @@
+-- `Envelope::commit_curve_divisor` puts a queued divisor in force and empties the queue; a 0 there is none.
 use borrow.Author.Tests.{eq-eqb, ne-eqb}
 use Rattle.envelope.specs.Envelope.{divisorCommitted}
 use Rattle.envelope.proofs.Envelope.commit_curve_divisor.Statement.{statement}

@@ -1,3 +1,4 @@
+-- `Envelope::commit_requested_motion` counts a pending motion down, takes it at 0, and works the target out anew.
 use borrow.Author.Tests.{eq-eqb, ne-eqb}
 use mathlib.Core.Path.{_∙_, ap}
 use Rattle.envelope.specs.Envelope.{motionCommitted, targetRefreshed}

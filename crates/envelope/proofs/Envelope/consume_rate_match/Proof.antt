@@ -1,3 +1,4 @@
+-- `Envelope::consume_rate_match` uses a waiting match, the counter back at 0; without one it does nothing.
 use Rattle.envelope.specs.Envelope.{matchConsumed}
 use borrow.Author.Needs.{needs}
 use Rattle.envelope.proofs.Envelope.consume_rate_match.Statement.{statement}

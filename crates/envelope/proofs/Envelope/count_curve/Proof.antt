@@ -1,3 +1,4 @@
+-- `Envelope::count_curve` sets curve delay 1 for divisor 1, else 2, where the count has come to the divisor.
 use borrow.Author.Tests.{eq-eqb, ne-eqb}
 use Rattle.envelope.specs.Envelope.{curveCounted}
 use Rattle.envelope.proofs.Envelope.count_curve.Statement.{statement}

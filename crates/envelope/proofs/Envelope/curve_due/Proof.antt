@@ -1,3 +1,4 @@
+-- `Envelope::curve_due` zeroes the curve count where its delay has run out, and sets the level's delay by `curve_end`.
 use borrow.Author.Tests.{eq-eqb, ne-eqb}
 use Rattle.envelope.specs.Envelope.{curveDue}
 use borrow.Author.Needs.{needs}

@@ -1,3 +1,4 @@
+-- `Envelope::curve_end` sets level delay 1, but not when falling to sustain with the level already there.
 use borrow.Author.Tests.{eq-eqb, ne-eqb}
 use Rattle.envelope.specs.Envelope.{curveEnded}
 use borrow.Author.Needs.{needs}

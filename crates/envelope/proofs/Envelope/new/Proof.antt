@@ -1,3 +1,4 @@
+-- `Envelope::new` is an envelope at level 0xaa that falls to zero at rate 0, its target 8.
 use Rattle.envelope.proofs.Periods.{period-range}
 use Rattle.envelope.specs.Envelope.{fresh}
 use native.Mathlib.Omega.{arith}

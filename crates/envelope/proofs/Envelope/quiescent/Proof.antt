@@ -1,3 +1,4 @@
+-- `Envelope::quiescent` is true exactly with no divisor queued, no gate change under way, no delay, no match waiting.
 use Rattle.envelope.specs.Envelope.{quiescent}
 use borrow.Author.Tests.{eq-eqb, ne-eqb, not-false, not-true}
 use mathlib.Core.Bool.{Bool·beq, and-false}

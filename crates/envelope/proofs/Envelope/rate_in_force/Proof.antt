@@ -1,3 +1,4 @@
+-- `Envelope::rate_in_force` is the rising rate, else the decay's if the gate input is high, else the release's.
 use Rattle.envelope.specs.Envelope.{rateInForce}
 use borrow.Author.Needs.{needs}
 use Rattle.envelope.proofs.Envelope.rate_in_force.Statement.{statement}

@@ -1,3 +1,5 @@
+-- `Envelope::refresh_rate_target_phase` sets the target to the period of the rate in force less 1.
+-- By `period-range`: a period is at least 9, so that one less does not fall below 0.
 use native.Mathlib.Omega.{arith}
 use Rattle.envelope.specs.Envelope.{targetRefreshed}
 use Rattle.envelope.proofs.Periods.{period-range}

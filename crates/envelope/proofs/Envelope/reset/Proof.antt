@@ -1,3 +1,4 @@
+-- `Envelope::reset` is fresh but for level and rate phase; the readback is the level, which is held exactly if it is 0.
 use Rattle.envelope.specs.Envelope.{reset}
 use borrow.Author.Needs.{needs}
 use Rattle.envelope.proofs.Envelope.reset.Statement.{statement}

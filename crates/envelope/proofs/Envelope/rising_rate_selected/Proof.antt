@@ -1,3 +1,4 @@
+-- `Envelope::rising_rate_selected` asks if the motion is Rising; with motion delay 1, if the requested one is.
 use borrow.Author.Needs.{needs}
 use borrow.Author.Tests.{eq-eqb, ne-eqb}
 use Rattle.envelope.specs.Envelope.{risingRateSelected}

@@ -1,3 +1,4 @@
+-- `Envelope::sample_gate_transition` requests a motion by the edge of the two old samples, and moves the samples on.
 use Rattle.envelope.specs.Envelope.{gateSampled, requestedOn}
 use borrow.Author.Needs.{needs}
 use Rattle.envelope.proofs.Envelope.sample_gate_transition.Statement.{statement}

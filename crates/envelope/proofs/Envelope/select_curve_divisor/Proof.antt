@@ -1,3 +1,4 @@
+-- `Envelope::select_curve_divisor` queues the divisor that the level asks for, or none.
 use borrow.Author.Needs.{needs}
 use Rattle.envelope.specs.Envelope.{divisorSelected}
 use Rattle.envelope.proofs.Envelope.select_curve_divisor.Statement.{statement}

@@ -1,3 +1,4 @@
+-- `Envelope::set_attack_decay` sets the rising rate by the upper half, the decay's by the lower, and the target.
 use Rattle.envelope.specs.Envelope.{attackDecaySet}
 use borrow.Author.Needs.{needs}
 use Rattle.envelope.proofs.Envelope.set_attack_decay.Statement.{statement}

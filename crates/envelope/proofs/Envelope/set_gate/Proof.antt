@@ -1,3 +1,4 @@
+-- `Envelope::set_gate` sets the gate's input and the target, and releases the hold only where low goes to high.
 use Rattle.envelope.specs.Envelope.{gateSet}
 use borrow.Author.Needs.{needs}
 use Rattle.envelope.proofs.Envelope.set_gate.Statement.{statement}

@@ -1,3 +1,4 @@
+-- `Envelope::set_sustain_release` sets the sustain level to the upper half twice, the release's rate, and the target.
 use Rattle.envelope.specs.Envelope.{sustainReleaseSet}
 use borrow.Author.Needs.{needs}
 use Rattle.envelope.proofs.Envelope.set_sustain_release.Statement.{statement}

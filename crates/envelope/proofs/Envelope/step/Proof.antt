@@ -1,3 +1,4 @@
+-- `Envelope::step` goes up when Rising and down when falling, but stays at the sustain level when falling to it.
 use borrow.Author.Tests.{eq-eqb, ne-eqb}
 use Rattle.envelope.specs.Envelope.{stepped}
 use borrow.Author.Needs.{needs}

@@ -1,3 +1,4 @@
+-- `Envelope::step_down` takes one off the level, 0 going to 0xff, queues its divisor, and at 0 holds it.
 use Prim.Native.Nat.{ℕ, _%_, _+_, _<_}
 use Rattle.envelope.specs.Envelope.{bottomReached, down, steppedDown}
 use borrow.Author.Tests.{eq-eqb, ne-eqb}

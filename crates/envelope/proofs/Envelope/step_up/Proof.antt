@@ -1,3 +1,4 @@
+-- `Envelope::step_up` adds one to the level, 0xff going to 0, queues its divisor, and asks for the fall at 0xff.
 use Rattle.envelope.specs.Envelope.{steppedUp, topReached, up}
 use borrow.Author.Tests.{eq-eqb, ne-eqb}
 use borrow.Author.Needs.{needs}

@@ -1,3 +1,4 @@
+-- `Envelope::take_motion` makes the requested motion the motion where its delay has run out.
 use borrow.Author.Tests.{eq-eqb, ne-eqb}
 use Rattle.envelope.specs.Envelope.{motionTaken}
 use borrow.Author.Needs.{needs}

@@ -1,3 +1,4 @@
+-- `Envelope::use_match` zeroes the count and sets level delay 2 under the rising rate; else, unless held, it counts on.
 use Rattle.envelope.specs.Envelope.{matchUsed}
 use borrow.Author.Needs.{needs}
 use Rattle.envelope.proofs.Envelope.use_match.Statement.{statement}

@@ -1,3 +1,4 @@
+-- `Floating::leaks` is true exactly where the lines show something and both hold and next leak have come.
 use borrow.Author.Tests.{eq-eqb, le-leb, lt-leb, ne-eqb}
 use Rattle.floating.specs.Floating.{leaks}
 use Rattle.floating.proofs.Floating.leaks.Statement.{statement}

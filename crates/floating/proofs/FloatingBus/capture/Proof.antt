@@ -1,3 +1,4 @@
+-- `FloatingBus::capture` charges the lines of the code's low twelve bits, and sets hold and first leak by the cycle.
 use borrow.Author.Needs.{needs}
 use lib.Bits.{and-mask}
 use Rattle.floating.specs.Floating.{captured}

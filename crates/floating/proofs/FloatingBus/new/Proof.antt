@@ -1,3 +1,4 @@
+-- `FloatingBus::new` is lines that show nothing, hold no charge and have no leak to come.
 use mathlib.Core.Path.{refl}
 use Rattle.laws.specs.Build.{build}
 use Rattle.laws.specs.Charges.{charged}

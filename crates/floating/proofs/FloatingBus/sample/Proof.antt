@@ -1,3 +1,5 @@
+-- `FloatingBus::sample` makes the leak steps that are due on the lines, and shows the lines that they leave.
+-- The code moves the next leak on by two wrapping sums, the rule by one.
 use borrow.Author.Needs.{needs}
 use borrow.Author.Tests.{eq-eqb, le-leb, lt-leb, ne-eqb}
 use native.Mathlib.Omega.{arith}

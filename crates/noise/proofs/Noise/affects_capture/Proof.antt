@@ -1,3 +1,4 @@
+-- `Noise::affects_capture` is true exactly where the shift lands by the next clock.
 use borrow.Author.Needs.{needs}
 use Rattle.noise.specs.Noise.{affectsCapture}
 use Rattle.noise.proofs.Noise.affects_capture.Statement.{statement}

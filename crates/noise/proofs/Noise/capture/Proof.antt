@@ -1,3 +1,4 @@
+-- `Noise::capture` is the numbers after a rise: the stages are captured, and the shift lands two clocks later.
 use borrow.Author.Needs.{needs}
 use Rattle.noise.specs.Noise.{captureNumbers}
 use Rattle.noise.proofs.Noise.capture.Statement.{statement}

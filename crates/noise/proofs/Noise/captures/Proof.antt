@@ -1,3 +1,4 @@
+-- `Noise::captures` is true exactly for a rise of phase bit 19 while no shift is under way.
 use borrow.Author.Tests.{eq-eqb, ne-eqb}
 use mathlib.Core.Path.{_∙_, sym}
 use Rattle.laws.proofs.Masks.{and-bit}

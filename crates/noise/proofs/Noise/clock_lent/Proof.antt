@@ -1,3 +1,4 @@
+-- `Noise::clock_lent` captures on a rise, the lent charges copied where they stand, as `clock` does by value.
 use Rattle.noise.specs.Noise.{clocked}
 use mathlib.Core.Path.{_∙_, sym}
 use borrow.Author.Needs.{needs}

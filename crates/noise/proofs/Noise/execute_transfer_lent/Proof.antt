@@ -1,3 +1,4 @@
+-- `Noise::execute_transfer_lent` shifts numbers and lent charges where due, as `execute_transfer` does by value.
 use Rattle.noise.specs.Noise.{transferred}
 use mathlib.Core.Path.{_∙_, sym}
 use borrow.Author.Needs.{needs}

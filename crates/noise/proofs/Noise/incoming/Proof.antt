@@ -1,3 +1,4 @@
+-- `Noise::incoming` is a full charge for a feedback of 1, and none for 0.
 use borrow.Author.Needs.{needs}
 use borrow.Author.Tests.{eq-eqb, ne-eqb}
 use mathlib.Core.Path.{sym}

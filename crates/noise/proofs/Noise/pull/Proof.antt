@@ -1,3 +1,4 @@
+-- `Noise::pull` is the numbers after a pull-down: stages of low lines cleared, the captured only if `affects_capture`.
 use borrow.Author.Needs.{needs}
 use mathlib.Core.Path.{_∙_, sym}
 use lib.Bits.{and-mask}

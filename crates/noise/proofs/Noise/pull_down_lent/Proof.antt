@@ -1,3 +1,4 @@
+-- `Noise::pull_down_lent` pulls down numbers and lent held charges, and the captured ones only if `affects_capture`.
 use borrow.Author.Needs.{needs}
 use mathlib.Core.Logic.{⊎-elim}
 use mathlib.Core.Path.{_∙_, sym}

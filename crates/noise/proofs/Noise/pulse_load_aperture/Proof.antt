@@ -1,3 +1,4 @@
+-- `Noise::pulse_load_aperture` is true exactly on the clock on which a rise's shift lands, and on the one before.
 use borrow.Author.Needs.{needs}
 use borrow.Author.Tests.{eq-eqb, le-leb, lt-leb, ne-eqb}
 use Rattle.noise.specs.Noise.{pulseLoadAperture}

@@ -1,3 +1,4 @@
+-- `Noise::shift` is the numbers after a shift: the shifted stages, shown, and no shift to come.
 use borrow.Author.Needs.{needs}
 use Rattle.noise.specs.Noise.{shiftedNumbers}
 use Rattle.noise.proofs.Noise.shift.Statement.{statement}

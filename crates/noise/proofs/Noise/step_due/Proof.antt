@@ -1,6 +1,7 @@
+-- `Noise::step_due` asks in test whether a leak is due, else whether the shift is or a rise captures.
 use borrow.Author.Needs.{needs}
 use mathlib.Core.Path.{_∙_, sym}
-use Rattle.noise.specs.Noise.{stepDue}
+use Rattle.noise.specs.Loop.{stepDue}
 use Rattle.noise.proofs.Noise.step_due.Statement.{statement}
 use Rattle.noise.proofs.Noise.step_due.Tie as tie
 

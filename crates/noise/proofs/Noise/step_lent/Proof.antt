@@ -1,3 +1,4 @@
+-- `Noise::step_lent` is a clock of numbers and lent charges: they relax in test, else shift if due and capture a rise.
 use Rattle.noise.specs.declared.NoiseGenerator.{NoiseGenerator}
 use Rattle.noise.specs.Noise.{clocked}
 use Rattle.noise.specs.Noise.{clocked, stepped}

@@ -1,3 +1,4 @@
+-- `NoiseGenerator::clock` captures stages and charges on a rise while no shift is under way, and else does nothing.
 use borrow.Author.Needs.{needs}
 use mathlib.Core.Path.{_∙_, sym}
 use Rattle.noise.specs.Noise.{clocked}

@@ -1,3 +1,4 @@
+-- `NoiseGenerator::enter_test` drops a shift under way, and sets the first leak 65,536 clocks ahead.
 use borrow.Author.Needs.{needs}
 use Rattle.noise.specs.Noise.{enteredTest}
 use Rattle.noise.proofs.NoiseGenerator.enter_test.Statement.{statement}

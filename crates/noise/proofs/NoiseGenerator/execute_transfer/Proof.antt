@@ -1,3 +1,4 @@
+-- `NoiseGenerator::execute_transfer` shifts stages and charges by one where the shift has come, and else does nothing.
 use borrow.Author.Needs.{needs}
 use mathlib.Core.Path.{_∙_, sym}
 use Rattle.noise.specs.Noise.{transferred}

@@ -1,3 +1,4 @@
+-- `NoiseGenerator::leave_test` reads the stages off the charges; a shift with stage 0 high lands on the next clock.
 use borrow.Author.Needs.{needs}
 use Rattle.noise.specs.Noise.{leftTest}
 use Rattle.noise.proofs.NoiseGenerator.leave_test.Statement.{statement}

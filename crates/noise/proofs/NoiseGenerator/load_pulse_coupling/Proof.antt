@@ -1,3 +1,4 @@
+-- `NoiseGenerator::load_pulse_coupling` drains the held charges of low lines, and leaves what is captured.
 use borrow.Author.Needs.{needs}
 use Rattle.noise.specs.Noise.{coupled}
 use Rattle.noise.proofs.NoiseGenerator.load_pulse_coupling.Statement.{statement}

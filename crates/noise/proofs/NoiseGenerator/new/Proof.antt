@@ -1,3 +1,4 @@
+-- `NoiseGenerator::new` is the stages 0x3fffff, shown and captured, with their charges and no time to come.
 use borrow.Author.Needs.{needs}
 use Rattle.noise.specs.Noise.{fresh}
 use Rattle.noise.proofs.NoiseGenerator.new.Statement.{statement}

@@ -1,3 +1,4 @@
+-- `NoiseGenerator::pull_down` clears and discharges low lines' stages, the captured too if the shift lands next clock.
 use borrow.Author.Needs.{needs}
 use Rattle.noise.proofs.NoiseGenerator.pull_down.Statement.{statement}
 use Rattle.noise.proofs.NoiseGenerator.pull_down.Tie as tie

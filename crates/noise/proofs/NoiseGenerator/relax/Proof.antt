@@ -1,3 +1,5 @@
+-- `NoiseGenerator::relax` makes the leak steps that are due, one after the other, and no other.
+-- The code moves the next leak on by two wrapping sums, the rule by one.
 use borrow.Author.Needs.{needs}
 use borrow.Author.Tests.{eq-eqb, le-leb, lt-leb, ne-eqb}
 use native.Mathlib.Omega.{arith}

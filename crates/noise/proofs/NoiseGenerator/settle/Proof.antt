@@ -1,3 +1,4 @@
+-- `NoiseGenerator::settle` takes relaxed stages over; if one was marked they show, and are captured if no shift is set.
 use borrow.Author.Needs.{needs}
 use borrow.Author.Tests.{eq-eqb, ne-eqb}
 use Rattle.noise.specs.Noise.{settledTo, takes}

@@ -1,3 +1,4 @@
+-- `NoiseGenerator::step` is a clock of the register: in test it relaxes, else the shift lands and then a rise captures.
 use borrow.Author.Needs.{needs}
 use Rattle.noise.specs.Noise.{stepped}
 use Rattle.noise.proofs.NoiseGenerator.step.Statement.{statement}

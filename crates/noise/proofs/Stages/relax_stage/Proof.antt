@@ -1,3 +1,4 @@
+-- `Stages::relax_stage` lets one stage's charge recover, and marks the stage as its charge reaches a logic 1.
 use borrow.Author.Needs.{needs}
 use borrow.Author.Tests.{eq-eqb, le-leb, lt-leb, ne-eqb}
 use native.Mathlib.Omega.{arith}

@@ -1,3 +1,4 @@
+-- `Stages::relax_step` is one leak step: all 23 stages, the lowest first.
 use borrow.Author.Needs.{needs}
 use native.Mathlib.Numerals.{add-one}
 use Prim.Native.Nat.{_-_, _≤_}

@@ -1,3 +1,4 @@
+-- `Stages::relax_steps` makes exactly so many leak steps of the 23 stages, each on what the one before it left.
 use borrow.Author.Needs.{needs}
 use native.Mathlib.Numerals.{add-one}
 use Prim.Native.Nat.{_-_, _≤_}

@@ -1,3 +1,4 @@
+-- `Control::code` is what floats where nothing is selected, else the waveforms' code.
 use borrow.Author.Needs.{needs}
 use mathlib.Core.Path.{ap, _∙_, sym}
 use lib.Bits.{and-mask}

@@ -1,3 +1,4 @@
+-- `Control::couples` is true exactly in test with noise, pulse and triangle or saw selected.
 use borrow.Author.Needs.{needs}
 use borrow.Author.Tests.{eq-eqb, ne-eqb}
 use mathlib.Core.Path.{ap, sym}

@@ -1,3 +1,4 @@
+-- `Control::feeds_back` is true exactly for a saw joined with another waveform and a code without bit 11.
 use borrow.Author.Needs.{needs}
 use Prim.Native.Nat.{_%_, _/_, _^_}
 use mathlib.Core.Path.{ap, _∙_, _≡_, sym}

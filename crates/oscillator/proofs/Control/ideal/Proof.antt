@@ -1,3 +1,4 @@
+-- `Control::ideal` is the selected waveforms joined by and, before any line is loaded.
 use borrow.Author.Needs.{needs}
 use Rattle.oscillator.specs.Oscillator.{ideal}
 use Rattle.oscillator.proofs.Control.ideal.Statement.{statement}

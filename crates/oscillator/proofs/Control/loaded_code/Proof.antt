@@ -1,3 +1,4 @@
+-- `Control::loaded_code` is the code that the selection's lines settle to, in twelve bits.
 use borrow.Author.Needs.{needs}
 use mathlib.Core.Path.{ap, _∙_, sym}
 use lib.Bits.{and-mask}

@@ -1,3 +1,4 @@
+-- `Control::loads_lines` is true exactly for two waveforms or more that are not triangle with noise.
 use borrow.Author.Needs.{needs}
 use borrow.Author.Tests.{eq-eqb, ne-eqb}
 use mathlib.Core.Path.{ap, sym}

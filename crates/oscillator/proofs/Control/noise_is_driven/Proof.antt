@@ -1,3 +1,4 @@
+-- `Control::noise_is_driven` is true exactly out of test with noise and another waveform selected.
 use borrow.Author.Needs.{needs}
 use mathlib.Core.Path.{ap, _∙_, sym}
 use Rattle.oscillator.specs.Oscillator.{noiseIsDriven}

@@ -1,7 +1,8 @@
+-- `Control::plain_code` is what floats where nothing is selected, else the joined waveforms, not loaded.
 use borrow.Author.Needs.{needs}
 use mathlib.Core.Path.{_∙_, ap, sym}
 use lib.Bits.{and-mask}
-use Rattle.oscillator.specs.Oscillator.{plainCode}
+use Rattle.oscillator.specs.Loop.{plainCode}
 use Rattle.oscillator.specs.declared.WaveformSelect.{WaveformSelect}
 use Rattle.oscillator.proofs.Control.plain_code.Statement.{statement}
 use Rattle.oscillator.proofs.Control.plain_code.Tie as tie

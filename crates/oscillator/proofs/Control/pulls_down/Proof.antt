@@ -1,3 +1,4 @@
+-- `Control::pulls_down` is true exactly where noise is driven, and with pulse alone only in the shift's aperture.
 use borrow.Author.Needs.{needs}
 use borrow.Author.Tests.{eq-eqb, ne-eqb}
 use mathlib.Core.Path.{ap, _∙_, sym}

@@ -1,3 +1,4 @@
+-- `Control::rings` is true exactly with ring on, triangle without saw, and the modulator's top bit low.
 use borrow.Author.Needs.{needs}
 use Prim.Native.Nat.{_%_, _/_, _^_}
 use mathlib.Core.Path.{ap, _∙_, _≡_, sym}

@@ -1,6 +1,7 @@
+-- `Control::sample_due` is true exactly where nothing is selected and a leak of the lines is due.
 use borrow.Author.Needs.{needs}
 use mathlib.Core.Path.{ap, _∙_, sym}
-use Rattle.oscillator.specs.Oscillator.{sampleDue}
+use Rattle.oscillator.specs.Loop.{sampleDue}
 use Rattle.oscillator.specs.declared.WaveformSelect.{WaveformSelect}
 use Rattle.oscillator.proofs.Control.sample_due.Statement.{statement}
 use Rattle.oscillator.proofs.Control.sample_due.Tie as tie

@@ -1,3 +1,4 @@
+-- `Control::triangle_phase` flips bit 11 of the phase where the voice rings, and else leaves it.
 use borrow.Author.Needs.{needs}
 use mathlib.Core.Path.{_∙_, sym}
 use Rattle.oscillator.specs.Oscillator.{trianglePhase}

@@ -1,3 +1,4 @@
+-- `Control::waveform_at_phase` is the joined waveforms, loaded where the selection loads its lines.
 use borrow.Author.Needs.{needs}
 use mathlib.Core.Path.{_∙_, sym}
 use lib.Bits.{and-mask}

@@ -1,3 +1,4 @@
+-- `Control::written` takes waveform, sync, ring and test from the byte, and keeps frequency and pulse width.
 use mathlib.Core.Path.{refl}
 use Rattle.oscillator.specs.Oscillator.{writtenControl}
 use Rattle.oscillator.proofs.Control.written.Statement.{statement}

@@ -1,3 +1,4 @@
+-- `Oscillator::apply_combined_feedback` feeds the code back into the phase, and touches neither noise nor lines.
 use borrow.Author.Needs.{needs}
 use Rattle.oscillator.specs.Oscillator.{fedBack}
 use Rattle.oscillator.proofs.Oscillator.apply_combined_feedback.Statement.{statement}

@@ -1,3 +1,4 @@
+-- `Oscillator::at_phase` is a voice freshly made, but for its phase.
 use borrow.Author.Needs.{needs}
 use Rattle.oscillator.specs.Oscillator.{fresh}
 use Rattle.oscillator.proofs.Oscillator.at_phase.Statement.{statement}

@@ -1,3 +1,4 @@
+-- `Oscillator::clock_accumulator` clocks the phase, and the noise register with the bits that rise.
 use borrow.Author.Needs.{needs}
 use Rattle.oscillator.specs.Oscillator.{clocked}
 use Rattle.oscillator.proofs.Oscillator.clock_accumulator.Statement.{statement}

@@ -1,3 +1,4 @@
+-- `Oscillator::evaluate_output` gives the code by the comparison made before, and leaves the one made now.
 use borrow.Author.Needs.{needs}
 use Rattle.oscillator.specs.Oscillator.{evaluated}
 use Rattle.oscillator.proofs.Oscillator.evaluate_output.Statement.{statement}

@@ -1,3 +1,4 @@
+-- `Oscillator::latch_output` latches the low twelve bits, after they have coupled into the noise or pulled it down.
 use borrow.Author.Needs.{needs}
 use Prim.Native.Nat.{_%_}
 use mathlib.Core.Path.{_≡_}

@@ -1,3 +1,4 @@
+-- `Oscillator::synchronise` clears phase and rising mark, and nothing else of the voice.
 use borrow.Author.Needs.{needs}
 use Rattle.oscillator.specs.Oscillator.{synchronised}
 use Rattle.oscillator.proofs.Oscillator.synchronise.Statement.{statement}

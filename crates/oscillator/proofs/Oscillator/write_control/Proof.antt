@@ -1,3 +1,4 @@
+-- `Oscillator::write_control` writes the four fields; then lines, phase and noise follow from what changed.
 use borrow.Author.Needs.{needs}
 use Rattle.oscillator.specs.Oscillator.{written}
 use Rattle.oscillator.proofs.Oscillator.write_control.Statement.{statement}

@@ -1,3 +1,4 @@
+-- `Oscillator::write_frequency_hi` writes the frequency's upper byte and keeps the lower.
 use borrow.Author.Needs.{needs}
 use native.Mathlib.Omega.{arith}
 use Prim.Native.Nat.{_%_, _*_, _^_}

@@ -1,3 +1,4 @@
+-- `Oscillator::write_pulse_width_hi` writes the pulse width's upper four bits and keeps the lower byte.
 use borrow.Author.Needs.{needs}
 use native.Mathlib.Omega.{arith}
 use Prim.Native.Nat.{_%_, _*_, _^_}

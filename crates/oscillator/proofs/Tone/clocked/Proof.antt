@@ -1,3 +1,4 @@
+-- `Tone::clocked` adds the frequency to the 24-bit phase and marks a rise of its top bit; in test the phase is 0.
 use borrow.Author.Needs.{needs}
 use native.Mathlib.Omega.{arith}
 use Prim.Native.Nat.{_%_, _+_, _/_, _^_}

@@ -1,3 +1,4 @@
+-- `Tone::compared` puts the pulse high where the phase is at the pulse width or above, else low.
 use borrow.Author.Needs.{needs}
 use borrow.Author.Tests.{le-leb, lt-leb}
 use mathlib.Core.Path.{sym}

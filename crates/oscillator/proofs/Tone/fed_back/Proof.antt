@@ -1,3 +1,4 @@
+-- `Tone::fed_back` clears the phase's top bit and its mark where the code feeds back, and else changes nothing.
 use borrow.Author.Needs.{needs}
 use Prim.Native.Nat.{_%_, _^_}
 use mathlib.Core.Path.{_∙_, _≡_, sym}

@@ -1,3 +1,4 @@
+-- `Tone::latched` makes the code both last sample and readback.
 use mathlib.Core.Path.{refl}
 use Rattle.oscillator.specs.Oscillator.{latchedTone}
 use Rattle.oscillator.proofs.Tone.latched.Statement.{statement}

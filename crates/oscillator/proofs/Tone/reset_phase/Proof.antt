@@ -1,3 +1,4 @@
+-- `Tone::reset_phase` clears phase and rising mark, and keeps the other numbers.
 use mathlib.Core.Path.{refl}
 use Rattle.oscillator.specs.Oscillator.{resetPhase}
 use Rattle.oscillator.proofs.Tone.reset_phase.Statement.{statement}

@@ -1,3 +1,4 @@
+-- `Tone::sounded` makes the comparison, feeds the code back and latches it, in this order.
 use borrow.Author.Needs.{needs}
 use Rattle.oscillator.proofs.Tone.sounded.Statement.{statement}
 use Rattle.oscillator.proofs.Tone.sounded.Tie as tie

@@ -1,3 +1,4 @@
+-- `Tone::tested` clears the phase where test is entered, and nowhere else.
 use borrow.Author.Needs.{needs}
 use Rattle.oscillator.specs.Oscillator.{testedTone}
 use Rattle.oscillator.proofs.Tone.tested.Statement.{statement}

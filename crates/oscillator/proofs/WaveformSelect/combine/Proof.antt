@@ -1,3 +1,4 @@
+-- `WaveformSelect::combine` joins the selected waveforms by and; with none it is the open bus.
 use borrow.Author.Needs.{needs}
 use mathlib.Core.Path.{_∙_, sym}
 use Rattle.oscillator.specs.Selection.{combined}

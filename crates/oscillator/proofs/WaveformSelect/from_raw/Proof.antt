@@ -1,3 +1,4 @@
+-- `WaveformSelect::from_raw` takes the low four bits.
 use lib.Bits.{and-mask}
 use Rattle.oscillator.proofs.WaveformSelect.from_raw.Statement.{statement}
 use Rattle.oscillator.proofs.WaveformSelect.from_raw.Tie as tie

@@ -1,3 +1,4 @@
+-- `WaveformSelect::is_combined` is true exactly for two waveforms or more.
 use borrow.Author.Needs.{needs}
 use Rattle.waveforms.specs.Waveforms.{needsLoading}
 use Rattle.oscillator.proofs.WaveformSelect.is_combined.Statement.{statement}

@@ -1,3 +1,4 @@
+-- `WaveformSelect::join` puts one waveform to the lines by and where it is selected.
 use borrow.Author.Needs.{needs}
 use mathlib.Core.Path.{_∙_, sym}
 use Rattle.oscillator.proofs.WaveformSelect.join.Statement.{statement}

@@ -1,3 +1,4 @@
+-- `LineArray::settle` is the code that three passes leave of the value's twelve charges, to the bit.
 use lib.Ieee.{ofBits}
 use borrow.Author.Needs.{needs}
 use Rattle.laws.specs.Times.{times}

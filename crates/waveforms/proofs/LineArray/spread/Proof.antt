@@ -1,3 +1,5 @@
+-- `LineArray::spread` makes the 144 couplings of the 23 by offset, and adds the static load.
+-- By `coupling-offset`: a coupling turns only on how far the destination lies above the source.
 use mathlib.Core.Path.{_≡_, refl}
 use Prim.Native.Nat.{ℕ, _+_, _-_, _*_, _/_, _%_, _≤_, _<_}
 use native.Mathlib.Omega.{arith}
