@@ -1,3 +1,4 @@
+-- `synced` starts a voice's phase anew where its source's mark rises, unless the source is synchronised itself.
 use Rattle.sid.specs.Sid.{syncs}
 use borrow.Author.Needs.{needs}
 use Rattle.sid.proofs.synced.Statement.{statement}

@@ -1,3 +1,4 @@
+-- `fill` leaves in the lent table the settled code of every value; or refuses with 1, then 2, the table as it was.
 use mathlib.Core.Path.{_∙_, sym}
 use Prim.Native.Nat.{_-_}
 use native.Mathlib.Omega.{arith}

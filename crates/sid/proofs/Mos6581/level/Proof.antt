@@ -1,3 +1,4 @@
+-- `Mos6581::level` gives the named voice's level, not its readback, or refuses a number above 2 with 3 at 0.
 use Rattle.sid.specs.Sid.{named}
 use borrow.Author.Tests.{ne-eqb}
 use borrow.Author.Needs.{needs}

@@ -1,3 +1,4 @@
+-- `Mos6581::new` is three fresh voices, an empty bus and both pots at 0xff.
 use Rattle.sid.specs.Sid.{fresh}
 use borrow.Author.Needs.{needs}
 use Rattle.sid.proofs.Mos6581.new.Statement.{statement}

@@ -1,3 +1,4 @@
+-- `Mos6581::read` drives and gives pot X, pot Y, OSC3 or ENV3 at 0x19 to 0x1c; elsewhere it gives the bus's byte.
 use Rattle.sid.specs.Sid.{readAt}
 use borrow.Author.Tests.{ne-eqb}
 use borrow.Author.Needs.{needs}

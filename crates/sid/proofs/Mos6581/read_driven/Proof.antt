@@ -1,3 +1,4 @@
+-- `Mos6581::read_driven` gives a byte and leaves it driven on the bus, all else as it was.
 use Rattle.bus.specs.Bus.{drivenRead}
 use Rattle.sid.specs.Sid.{readDriven}
 use borrow.Author.Needs.{needs}

@@ -1,3 +1,4 @@
+-- `Mos6581::reset` resets each voice and the bus, and keeps the pots.
 use Rattle.sid.specs.Sid.{reset}
 use borrow.Author.Needs.{needs}
 use Rattle.sid.proofs.Mos6581.reset.Statement.{statement}

@@ -1,3 +1,4 @@
+-- `Mos6581::write` drives the bus, and writes the one voice, if any, that the address's low five bits name.
 use Rattle.sid.specs.Sid.{written}
 use borrow.Author.Needs.{needs}
 use Rattle.sid.proofs.Mos6581.write.Statement.{statement}

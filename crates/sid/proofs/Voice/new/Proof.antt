@@ -1,3 +1,4 @@
+-- `Voice::new` is a fresh oscillator, its phase 0x555555, with a fresh envelope.
 use borrow.Author.Needs.{needs}
 use Rattle.sid.proofs.Voice.new.Statement.{statement}
 use Rattle.sid.proofs.Voice.new.Tie as tie

@@ -1,3 +1,4 @@
+-- `Voice::reset` keeps phase, level and rate phase, and makes all else fresh.
 use Rattle.sid.specs.Sid.{resetVoice}
 use borrow.Author.Needs.{needs}
 use Rattle.sid.proofs.Voice.reset.Statement.{statement}

@@ -1,3 +1,4 @@
+-- `Voice::write` writes one of a voice's seven registers; the fifth, its control, reaches oscillator and envelope.
 use Rattle.sid.specs.Sid.{writtenVoice}
 use borrow.Author.Tests.{ne-eqb}
 use borrow.Author.Needs.{needs}

@@ -1,3 +1,4 @@
+-- `Voice::write_to` writes the voice where the register is one of its seven, and else leaves it.
 use Rattle.sid.specs.Sid.{writtenTo}
 use borrow.Author.Tests.{eq-eqb, ne-eqb}
 use borrow.Author.Needs.{needs}
