@@ -18,16 +18,19 @@ needed=$(awk '
     for (i = 1; i <= count; i++) if (name[i] in wanted) print name[i]
   }' crates.txt)
 
+# nothing is told where `replay` was built after the last change
 tell() {
   # shellcheck disable=SC2086 # one word a crate
   set -- $needed
   all=$#
-  [ -x target/bin/replay ] || echo "replay is proved and built first, which takes some minutes" >&2
+  if [ -x target/bin/replay ] && [ -z "$(find crates crates.txt -type f -newer target/bin/replay | head -n 1)" ]; then
+    set --
+  fi
+  [ $# -eq 0 ] || echo "proving $1 (1 of $all)" >&2
   while IFS= read -r line; do
     case $line in
     "rt: "*" proved ("*)
-      shift
-      case $line in *"(unchanged"*) continue ;; esac
+      [ $# -eq 0 ] || shift
       [ $# -eq 0 ] || echo "proving $1 ($((all - $# + 1)) of $all)" >&2
       ;;
     esac
