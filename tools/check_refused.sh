@@ -26,9 +26,8 @@ complain() {
   status=1
 }
 
-# What a log says, a line each: 'own F', function F has an error of its own; 'misfit F', its proof no longer fits; 'at
-# FILE LINE', a law has an error of its own there; 'waits A B', A, which is 'fn:F' or 'law:L', is not taken since law
-# B is not.
+# What a log says, a line each: 'fn F' or 'law L' has an error of its own; with 'misfit' before it, one that says that
+# it no longer fits; 'waits A B': A, 'fn:F' or 'law:L', is not taken since B is not. An error names its definition.
 cat > "$room/read.awk" <<'EOF'
 # The kind of a fact: its relation, and whether it is denied. What stands in brackets is not its own.
 function kind(type) {
@@ -43,63 +42,36 @@ function marked(text, phrase,    at) {
   text = substr(text, at + length(phrase) + 1)
   return substr(text, 1, index(text "`", "`") - 1)
 }
-function judged(    name, want, have) {
+function judged(    what, name, want, have) {
   if (error == "") return
-  name = file
-  if (sub(/\/Proof\.antt$/, "", name)) {
-    sub(/^proofs\//, "", name); gsub(/\+/, "", name); gsub(/\//, "::", name)
-  } else name = ""
+  what = "law"; name = marked(error, "")
+  if (sub(/\/Proof\.antt$/, "", file)) {
+    what = "fn"; name = file
+    gsub(/\+/, "", name); gsub(/\//, "::", name)
+  }
   want = kind(marked(error, "expected type ")); have = kind(marked(error, "but this has type "))
-  if (match(error, /`[^`]*` was not admitted/))
-    print "waits", name != "" ? "fn:" name : "law:" marked(error, ""), substr(error, RSTART + 1, RLENGTH - 19)
+  if (match(error, /`[^`]*` was not admitted/)) print "waits", what ":" name, substr(error, RSTART + 1, RLENGTH - 19)
   else if (error ~ /has no field|not in scope|has no `Need-|can be named from here|expected type `[^ `]*(tie|lts)\.Need-|cannot find/ \
-    || want != "" && have != "" && want != have) { if (name != "") print "misfit", name }
-  else if (name != "") print "own", name
-  else print "at", file, line
+    || want != "" && have != "" && want != have) print "misfit", what, name
+  else print what, name
   error = ""
 }
 /^  / { if (error != "") error = error "\n" $0; next }
 { judged() }
-/^[^ ]*\/proofs\/[^ ]*\.antt:[0-9]+:[0-9]+: error: / {
+/^[^ ]*\.antt:[0-9]+:[0-9]+: error: `/ {
   at = index($0, home)
   if (!at) next
   file = substr($0, at + length(home))
   error = file
-  sub(/^[^:]*:[0-9]+:[0-9]+: error: /, "", error)
-  line = file
-  sub(/^[^:]*:/, "", line); sub(/:.*/, "", line)
-  sub(/:.*/, "", file)
+  sub(/:.*/, "", file); sub(/^[^`]*/, "", error)
 }
 /^fn [^ ]*: no proof: .*`search` does not close/ {
   name = $2
   sub(/^[^:]*::/, "", name); sub(/:$/, "", name)
-  print "own", name
+  print "fn", name
 }
 END { judged() }
 EOF
-
-# Whether a law has an error of its own: from its signature, 'name : type' or the name alone above ': type', to the next
-# that stands as far to the left or further.
-law_refused() { # FOLDER LAW
-  sed -n 's/^at //p' "$room/said" | while read -r file line; do
-    awk -v law="$2" -v line="$line" '
-      function begins(text,    depth) {
-        match(text, /^ */)
-        depth = RLENGTH
-        if (depth <= deep) within = 0
-        text = substr(text, depth + 1)
-        while (sub(/^(pub|abbrev|unfoldable) /, "", text)) {}
-        sub(/ .*/, "", text)
-        if (!within && text == law) { within = 1; deep = depth }
-      }
-      /^ *((pub|abbrev|unfoldable) )*[^ ]+ : / { begins($0) }
-      /^ *: / { begins(before) }
-      { before = $0 }
-      NR == line { found = within; exit }
-      END { exit !found }
-    ' "$1/$file" && echo yes
-  done | grep -q yes
-}
 
 # Whether a function's proof waits for a law, itself or through other laws.
 waits_for() { # FUNCTION LAW
@@ -119,6 +91,18 @@ waits_for() { # FUNCTION LAW
 
 said() { grep -q -F -x "$1" "$room/said"; }
 
+# Whether 'fn F' or 'law L' is refused at a need of its own.
+refused() {
+  if said "misfit $1"; then
+    complain "$one: the proof of ${1#* } no longer fits the code"
+  elif said "$1"; then
+    return 0
+  else
+    complain "$one: ${1#* } has no error at a need of its own"
+  fi
+  return 1
+}
+
 : > "$room/refused"
 edits=0
 for edit in crates/*/must-fail/*.edit; do
@@ -133,28 +117,22 @@ for edit in crates/*/must-fail/*.edit; do
     complain "$one: no log in target/must-fail"
     continue
   fi
-  awk -v home="/must-fail/$one/" -f "$room/read.awk" "target/must-fail/$one/.log" | sort -u > "$room/said"
+  awk -v home="/must-fail/$one/proofs/" -f "$room/read.awk" "target/must-fail/$one/.log" | sort -u > "$room/said"
   while IFS= read -r name; do
     case $name in
     'law '*)
-      law_refused "target/must-fail/$one" "${name#law }" || complain "$one: no error in the law ${name#law }"
+      refused "$name" || true
       ;;
     *' by '*)
       law=${name#* by } name=${name%% by *}
-      if waits_for "$name" "$law" && law_refused "target/must-fail/$one" "$law"; then
+      if ! waits_for "$name" "$law"; then
+        complain "$one: the proof of $name does not wait for $law"
+      elif refused "law $law"; then
         echo "$crate::$name" >> "$room/refused"
-      else
-        complain "$one: $name is not refused by the law $law"
       fi
       ;;
     *)
-      if said "misfit $name"; then
-        complain "$one: the proof of $name no longer fits the code"
-      elif said "own $name"; then
-        echo "$crate::$name" >> "$room/refused"
-      else
-        complain "$one: $name has no error at a need of its own"
-      fi
+      if refused "fn $name"; then echo "$crate::$name" >> "$room/refused"; fi
       ;;
     esac
   done < "$room/named"
