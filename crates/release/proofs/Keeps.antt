@@ -1,4 +1,4 @@
--- Runs of clocks, joined: n clocks lead from one envelope to another, and before each of them something holds. Assumes nothing.
+-- Runs of clocks, joined: n clocks lead from one envelope to another, and before each something holds. Assumes nothing.
 use Prim.Native.Nat.{ℕ, zero, suc, _+_, _-_, _<_, _≤_}
 use native.Mathlib.Omega.{arith}
 use native.Mathlib.Decide.{decLt}

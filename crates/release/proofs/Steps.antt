@@ -1,4 +1,5 @@
--- Levels and divisors of a fall: in closed form, within bounds, and counted from the first step instead of up to the last. Assumes nothing.
+-- Levels and divisors of a fall: in closed form, within bounds, and counted from the first step instead of up to the
+-- last. Assumes nothing.
 use Prim.Native.Nat.{ℕ, zero, suc, _+_, _-_, _%_, _<_, _≤_}
 use native.Mathlib.Omega.{arith}
 use native.Mathlib.Decide.{decLt}

@@ -1,5 +1,5 @@
--- From any envelope with nothing under way the match is set once the counter has come to its target, the long way round too;
--- until then only phase and readback move. Assumes nothing.
+-- From any envelope with nothing under way the match is set once the counter has come to its target, the long way round
+-- too; until then only phase and readback move. Assumes nothing.
 use Prim.Native.Nat.{ℕ, zero, suc, _+_, _-_, _%_, _<_, _≤_}
 use native.Mathlib.Omega.{arith}
 use mathlib.Core.Path.{_≡_, refl, ap, sym, _∙_}

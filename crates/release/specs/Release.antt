@@ -1,4 +1,5 @@
--- Document 01, 'Settled release', and demand 3, whose sentence stands before `landing`: the states and clocks that it speaks of, and what it claims.
+-- Document 01, 'Settled release', and demand 3, whose sentence stands before `landing`: the states and clocks that it
+-- speaks of, and what it claims.
 use Prim.Native.Nat.{ℕ, zero, suc, _+_, _-_, _*_, _%_, _<_, _≤_}
 use mathlib.Core.Path.{_≡_}
 use mathlib.Core.Bool.{Bool, true, false, cond, _||_}
@@ -86,7 +87,8 @@ stepClock e P (suc k) = wait P (e .«rate_phase») + 2 + (matches e (suc k) - 1)
 abbrev pub At : ℕ → Bool → Envelope → Type 0
 At v held e = (e .volume ≡ v) × (e .«floor_hold» ≡ held)
 
--- Demand 3 over these definitions: from the clock of each step to that of the next the level is the same, and from that of the last on it is held at zero
+-- Demand 3 over these definitions: from the clock of each step to that of the next the level is the same, and from that
+-- of the last on it is held at zero
 pub record Releases (e : Envelope) (P : ℕ) : Type 0 where
   pub level
       : (k : ℕ) → k < steps (e .volume) → (n : ℕ) → stepClock e P k ≤ n → n < stepClock e P (suc k)
@@ -94,9 +96,10 @@ pub record Releases (e : Envelope) (P : ℕ) : Type 0 where
   pub end : (n : ℕ) → stepClock e P (steps (e .volume)) ≤ n → At 0 true (clocks n e)
 
 -- DEMAND 3 once more, in the plain numbers of its sentence:
--- 'Settled release: rate phase p, release period P. While neither a reset nor a write to that voice's control or envelope registers comes,
--- a step down that needs S rate matches lands on clock ((P-1-p) mod 32767)+2+(S-1)P+e, the first clock being 1; e is 2 if that step's
--- divisor is 1, otherwise 3. The level changes on no other clock, and ends held at zero.'
+-- 'Settled release: rate phase p, release period P. While neither a reset nor a write to that voice's control or
+-- envelope registers comes, a step down that needs S rate matches lands on clock ((P-1-p) mod 32767)+2+(S-1)P+e, the
+-- first clock being 1; e is 2 if that step's divisor is 1, otherwise 3. The level changes on no other clock, and ends
+-- held at zero.'
 
 -- '((P-1-p) mod 32767)+2+(S-1)P+e', where the step's divisor is D
 abbrev pub landing : ℕ → ℕ → ℕ → ℕ → ℕ
@@ -107,7 +110,7 @@ abbrev pub Needs : Envelope → ℕ → ℕ → ℕ → Type 0
 Needs e k S D = (k < steps (e .volume)) × (S ≡ matches e (suc k)) × (D ≡ divisorAfter (e .volume) (e .«curve_divisor») k)
 
 pub record Demand3 (e : Envelope) (p P : ℕ) : Type 0 where
-  -- 'lands on clock …, the first clock being 1': after n clocks the level is as before the step, after n + 1 it is one less
+  -- 'lands on clock …, the first clock being 1': after n clocks the level is as before the step, after n + 1 one less
   pub lands
       : (k S D n : ℕ) → Needs e k S D → suc n ≡ landing p P S D
       → (clocks n e .volume ≡ (e .volume + 256 - k) % 256) × (clocks (suc n) e .volume ≡ (e .volume + 255 - k) % 256)
