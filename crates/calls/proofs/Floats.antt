@@ -1,5 +1,5 @@
--- The floating waveform: selecting waveform 0 from another captures the last code; left so, it is whole for 1,260,019 clocks and zero from clock
--- 1,260,020, for any voice and any run of calls. Assumes nothing.
+-- The floating waveform: selecting waveform 0 from another captures the last code; left so, it is whole for 1,260,019
+-- clocks and zero from clock 1,260,020, for any voice and any run of calls. Assumes nothing.
 use mathlib.Core.Path.{_≡_, refl, ap, ap₂, sym, subst, _∙_}
 use mathlib.Core.Bool.{Bool, true, false, not, _||_, false≢true}
 use mathlib.Core.List.{List, [], _∷_}
@@ -17,12 +17,12 @@ use Rattle.oscillator.specs.Oscillator.{writtenControl, writtenBus, resetPhase,
 use Rattle.oscillator.specs.declared.Control.{Control}
 use Rattle.oscillator.specs.declared.Oscillator.{Oscillator}
 use Rattle.oscillator.proofs.Floats.{tick-control, tick-cycle, tick-lines, tick-floats, write-captures}
-use Rattle.sid.specs.Sid.{register, writtenVoice, writtenTo, written, readAt, clockedVoice, voiced, synchronisedIf, ticked, codeOf, Call, write, read, tick, clear, potX, potY, called, after, clocksOf}
+use Rattle.sid.specs.Sid.{fresh, register, writtenVoice, writtenTo, written, readAt, clockedVoice, voiced, synchronisedIf, ticked, codeOf, Call, write, read, tick, clear, potX, potY, called, after, clocksOf}
 use Rattle.sid.specs.declared.Voice.{Voice}
 use Rattle.sid.specs.declared.Mos6581.{Mos6581}
-use Rattle.calls.specs.Calls.{Which, first, second, third, number, of, controlOf, waveformOf, cycleOf, Each, none, next, leavesOff, Captures, Floats}
-use Rattle.calls.proofs.Voices.{Face, tick-voice, read-voice, pot-x-voice, pot-y-voice, write-voice, write-face}
-use Rattle.calls.proofs.Latched.{latched-after, read-osc3}
+use Rattle.calls.specs.Calls.{Which, first, second, third, number, of, controlOf, waveformOf, cycleOf, Each, none, next, leavesOff, Latched, Captures, Floats}
+use Rattle.calls.proofs.Voices.{Face, tick-voice, read-voice, pot-x-voice, pot-y-voice, write-voice, write-oscillator, write-face}
+use Rattle.calls.proofs.Latched.{latched-after, latched-fresh, read-osc3}
 
 -- a voice with waveform 0 selected at a cycle, that gives what its lines show
 record Drifts (v : Voice) (b : FloatingBus) (cycle : ℕ) : Type 0 where
@@ -72,14 +72,9 @@ unfolding Oscillator·written writtenControl writtenBus
 control-stays v value z e = record { off = e ∙ sym z; lines = simp (z, e) }
 
 register-stays : (v : Voice) (r value : ℕ) → waveformOf v ≡ 0 → (r ≡ 4 → value / 2 ^ 4 ≡ 0) → Stays v (writtenVoice v r value .oscillator)
-unfolding writtenVoice
 register-stays v r value z h =
-    let P = Stays v in
-    by-test P (eqb r 0) _ _ (λ _. record { off = refl; lines = refl })
-    (λ _. by-test P (eqb r 1) _ _ (λ _. record { off = refl; lines = refl })
-    (λ _. by-test P (eqb r 2) _ _ (λ _. record { off = refl; lines = refl })
-    (λ _. by-test P (eqb r 3) _ _ (λ _. record { off = refl; lines = refl })
-    (λ _. by-test P (eqb r 4) _ _ (λ e. control-stays v value z (h (eqb-true r 4 e))) (λ _. record { off = refl; lines = refl })))))
+    write-oscillator (Stays v) v r value (λ _ _. record { off = refl; lines = refl }) (λ e. control-stays v value z (h (eqb-true r 4 e)))
+    (record { off = refl; lines = refl })
 
 -- the control register of voice n is 7 n + 4
 control-at : (w : Which) → controlOf w ≡ 7 * number w + 4
@@ -157,10 +152,11 @@ write-control n v r value e =
 
 starts
     : (w : Which) (c : Mos6581) (address value : ℕ)
+    → Latched (of w c)
     → Captures w c address value
     → Drifts (of w (written c address value)) (captured (codeOf (of w c)) (cycleOf (of w c))) (cycleOf (of w c))
 unfolding Oscillator·written writtenControl captured
-starts w c address value h =
+starts w c address value l h =
     let o = of w c .oscillator in
     let f = write-face w c address value in
     let e : of w (written c address value) .oscillator ≡ Oscillator·written o value =
@@ -170,7 +166,7 @@ starts w c address value h =
       off = ap (λ (x : Oscillator). x .control .waveform) e ∙ h .off;
       lines = ap (λ (x : Oscillator). x .bus) e ∙ write-captures o value (h .off) (h .another);
       now = ap (λ (x : Face). x .cycle) f;
-      code = ap (λ (x : Face). x .code) f ∙ omega (arith, h .latched .twelve);
+      code = ap (λ (x : Face). x .code) f ∙ omega (arith, l .twelve);
     }
 
 samples-empty : (n : ℕ) (b : FloatingBus) (cycle : ℕ) → b .numbers .value ≡ 0 → samples n b cycle .numbers .value ≡ 0
@@ -207,18 +203,30 @@ module _ (code cycle : ℕ) (twelve : code < 4096) (early : cycle < 2 ^ 63) (n :
           ap (λ (x : ℕ). x % 4096) (lines-gone code cycle (λ z. some (omega arith)) early n h)
 
 -- THE FLOATING LAW for any voice and any calls that leave waveform 0 selected
-pub chip-floats : (w : Which) (c : Mos6581) (address value : ℕ) → Captures w c address value → Floats w (written c address value) (codeOf (of w c))
-chip-floats w c address value h =
+pub chip-floats
+    : (w : Which) (c : Mos6581) (address value : ℕ)
+    → Latched (of w c)
+    → Captures w c address value
+    → Floats w (written c address value) (codeOf (of w c))
+chip-floats w c address value l h =
     let v = of w c in
-    let d = starts w c address value h in
+    let d = starts w c address value l h in
     record {
-      whole = λ calls r l. code-drifts w calls _ _ _ r d ∙ captured-whole (codeOf v) (cycleOf v) (h .latched .twelve) (h .early) (clocksOf calls) l;
-      gone = λ calls r l. code-drifts w calls _ _ _ r d ∙ captured-gone (codeOf v) (cycleOf v) (h .latched .twelve) (h .early) (clocksOf calls) l;
+      whole = λ calls r n. code-drifts w calls _ _ _ r d ∙ captured-whole (codeOf v) (cycleOf v) (l .twelve) (h .early) (clocksOf calls) n;
+      gone = λ calls r n. code-drifts w calls _ _ _ r d ∙ captured-gone (codeOf v) (cycleOf v) (l .twelve) (h .early) (clocksOf calls) n;
     }
+
+-- of every chip that calls make of a fresh one
+pub chip-floats-fresh
+    : (w : Which) (calls : List Call) (address value : ℕ)
+    → Captures w (after calls fresh) address value
+    → Floats w (written (after calls fresh) address value) (codeOf (of w (after calls fresh)))
+chip-floats-fresh w calls address value h = chip-floats w (after calls fresh) address value (latched-fresh w calls) h
 
 -- and what OSC3 then shows of voice 2
 pub read-osc3-floats
     : (c : Mos6581) (address value : ℕ)
+    → Latched (of third c)
     → Captures third c address value
     → (calls : List Call) (from : ℕ)
     → Each (leavesOff third) calls
@@ -226,7 +234,7 @@ pub read-osc3-floats
     → (clocksOf calls ≤ 1260019 → readAt (after calls (written c address value)) from .byte ≡ codeOf (of third c) / 2 ^ 4)
     × (1260020 ≤ clocksOf calls → readAt (after calls (written c address value)) from .byte ≡ 0)
 unfolding after called
-read-osc3-floats c address value h calls from r e =
-    let k = chip-floats third c address value h in
-    let shows = read-osc3 (after calls (written c address value)) from e (latched-after third (write address value ∷ calls) c (h .latched)) in
+read-osc3-floats c address value l h calls from r e =
+    let k = chip-floats third c address value l h in
+    let shows = read-osc3 (after calls (written c address value)) from e (latched-after third (write address value ∷ calls) c l) in
     ((λ n. shows ∙ ap (λ (x : ℕ). x / 2 ^ 4) (k .whole calls r n)), (λ n. shows ∙ ap (λ (x : ℕ). x / 2 ^ 4) (k .gone calls r n)))

@@ -1,4 +1,5 @@
--- The code of any voice is the last latched, OSC3 its top eight bits, and ENV3 the level of one clock before, for any run of calls. Assumes nothing.
+-- The code of any voice is the last latched, OSC3 its top eight bits, and ENV3 the level of one clock before, for any
+-- run of calls. Assumes nothing.
 use mathlib.Core.Path.{_≡_, refl, ap, sym, subst, _∙_}
 use mathlib.Core.Bool.{Bool, true, false, false≢true}
 use mathlib.Core.List.{List, [], _∷_, _++_}
@@ -8,14 +9,15 @@ use Rattle.envelope.specs.Envelope.{fresh as Envelope·fresh, reset as Envelope
 use Rattle.envelope.specs.declared.Envelope.{Envelope}
 use Rattle.envelope.proofs.Readback.{clock-reads}
 use Rattle.oscillator.specs.Oscillator.{fresh as Oscillator·fresh, latchedTone, latchedCode, resetPhase, synchronised as Oscillator·synchronised, voiced as Oscillator·voiced}
-use Rattle.sid.specs.Sid.{register, fresh, resetVoice, reset, readDriven, readAt, clockedVoice, voiced, synchronisedIf, ticked, codeOf, levelOf, Call, write, read, tick, clear, potX, potY, called, after}
+use Rattle.sid.specs.Sid.{register, fresh, resetVoice, readDriven, readAt, writtenVoice, clockedVoice, voiced, synchronisedIf, ticked, codeOf, levelOf, Call, write, read, tick, clear, potX, potY, called, after}
 use Rattle.sid.proofs.Calls.{after-join}
 use Rattle.sid.specs.declared.Voice.{Voice}
 use Rattle.sid.specs.declared.Mos6581.{Mos6581}
 use Rattle.calls.specs.Calls.{Which, third, of, Each, none, next, idle, Last, idles, ticks, clears, Latched}
-use Rattle.calls.proofs.Voices.{tick-voice, tick-envelope, read-voice, pot-x-voice, pot-y-voice, reset-voice, fresh-voice, Face, face, write-face}
+use Rattle.calls.proofs.Voices.{tick-voice, tick-envelope, read-voice, pot-x-voice, pot-y-voice, reset-voice, fresh-voice, Face, face, write-face, register-face, call-keeps, calls-keep}
 
--- every run of calls ends with idle calls after a tick, after a reset, or after nothing: the laws `…-after-tick`, `…-after-reset` and `…-while-fresh` leave none out
+-- every run of calls ends with idle calls after a tick, after a reset, or after nothing: the laws `…-after-tick`,
+-- `…-after-reset` and `…-while-fresh` leave none out
 last-next : (call : Call) {calls : List Call} → Last calls → Last (call ∷ calls)
 unfolding idle
 last-next call (ticks calls more r) = ticks (call ∷ calls) more r
@@ -75,40 +77,35 @@ code-while-fresh w calls r = idle-keeps w calls fresh r .0 ∙ ap codeOf (fresh-
 
 -- ---- 'OSC3 is the top eight bits of voice 2's code'
 
-voice-latched : (taken : Bool) (v : Voice) (modulator : ℕ) → Latched (synchronisedIf taken (voiced (clockedVoice v) modulator))
+pub voice-latched : (v : Voice) (modulator : ℕ) (taken : Bool) → Latched (synchronisedIf taken (voiced (clockedVoice v) modulator))
 unfolding synchronisedIf voiced Oscillator·synchronised resetPhase Oscillator·voiced latchedCode latchedTone
-voice-latched true v modulator = record { shown = refl; twelve = omega arith }
-voice-latched false v modulator = record { shown = refl; twelve = omega arith }
+voice-latched v modulator true = record { shown = refl; twelve = omega arith }
+voice-latched v modulator false = record { shown = refl; twelve = omega arith }
 
 pub tick-latched : (w : Which) (c : Mos6581) → Latched (of w (ticked c))
 tick-latched w c =
     let t = tick-voice w c in
-    subst Latched (sym (t .same)) (voice-latched (t .taken) (of w c) (t .modulator))
+    subst Latched (sym (t .same)) (voice-latched (of w c) (t .modulator) (t .taken))
 
-fresh-latched : (accumulator : ℕ) (e : Envelope) → Latched (record { oscillator = Oscillator·fresh accumulator; envelope = e })
+pub fresh-latched : (accumulator : ℕ) (e : Envelope) → Latched (record { oscillator = Oscillator·fresh accumulator; envelope = e })
 unfolding Oscillator·fresh
 fresh-latched accumulator e = record { shown = refl; twelve = omega arith }
 
-reset-latched : (w : Which) (c : Mos6581) → Latched (of w (reset c))
-unfolding resetVoice
-reset-latched w c = subst Latched (sym (reset-voice w c)) (fresh-latched _ _)
-
-face-latched : (u v : Voice) → face u ≡ face v → Latched v → Latched u
+pub face-latched : (u v : Voice) → face u ≡ face v → Latched v → Latched u
 face-latched u v e h = record {
   shown = ap (λ (f : Face). f .osc) e ∙ h .shown ∙ sym (ap (λ (f : Face). f .code) e);
   twelve = subst (λ (x : ℕ). x < 4096) (sym (ap (λ (f : Face). f .code) e)) (h .twelve);
 }
 
--- any calls keep it, from any chip; so it holds of every chip that calls make of a fresh one
+-- every call keeps it, from any chip; so it holds of every chip that calls make of a fresh one
+pub call-latched : (w : Which) (call : Call) (c : Mos6581) → Latched (of w c) → Latched (of w (called call c))
+unfolding resetVoice
+call-latched =
+    call-keeps Latched (λ v modulator taken _. voice-latched v modulator taken) (λ v _. fresh-latched _ _)
+    (λ v r value h. face-latched (writtenVoice v r value) v (register-face v r value) h)
+
 pub latched-after : (w : Which) (calls : List Call) (c : Mos6581) → Latched (of w c) → Latched (of w (after calls c))
-unfolding after called
-latched-after w [] c h = h
-latched-after w (write address value ∷ calls) c h = latched-after w calls _ (face-latched _ (of w c) (write-face w c address value) h)
-latched-after w (read address ∷ calls) c h = latched-after w calls _ (subst Latched (sym (read-voice w c address)) h)
-latched-after w (tick ∷ calls) c h = latched-after w calls _ (tick-latched w c)
-latched-after w (clear ∷ calls) c h = latched-after w calls _ (reset-latched w c)
-latched-after w (potX value ∷ calls) c h = latched-after w calls _ (subst Latched (sym (pot-x-voice w c value)) h)
-latched-after w (potY value ∷ calls) c h = latched-after w calls _ (subst Latched (sym (pot-y-voice w c value)) h)
+latched-after w = calls-keep (λ c. Latched (of w c)) (call-latched w)
 
 pub latched-fresh : (w : Which) (calls : List Call) → Latched (of w (after calls fresh))
 latched-fresh w calls = latched-after w calls fresh (subst Latched (sym (fresh-voice w)) (fresh-latched _ _))
@@ -117,7 +114,7 @@ pub read-osc3 : (c : Mos6581) (address : ℕ) → register address ≡ 0x1b → 
 unfolding readAt readDriven
 read-osc3 c address e h = simp e (ap (λ (x : ℕ). x / 2 ^ 4 % 256) (h .shown) ∙ omega (arith, h .twelve))
 
--- of any chip that calls make of a fresh one; and after any calls, a tick, and calls without tick and reset, of any chip
+-- of any chip that calls make of a fresh one; and of any chip after any calls, a tick, and calls without tick and reset
 pub read-osc3-fresh : (calls : List Call) (address : ℕ) → register address ≡ 0x1b → readAt (after calls fresh) address .byte ≡ codeOf (of third (after calls fresh)) / 2 ^ 4
 read-osc3-fresh calls address e = read-osc3 (after calls fresh) address e (latched-fresh third calls)
 

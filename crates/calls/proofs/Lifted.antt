@@ -1,23 +1,22 @@
--- Demand 3 and the fading law of the bus, for any run of calls and any voice. Assumes nothing.
+-- Demand 3 and 'Sustain 0xf0 holds at 0xff', for any voice and any run of calls that spares it. Assumes nothing.
 use mathlib.Core.Path.{_≡_, refl, ap, sym, _∙_}
-use mathlib.Core.Bool.{Bool, true, cond}
+use mathlib.Core.Bool.{Bool, cond}
 use mathlib.Core.List.{List, [], _∷_}
-use Prim.Native.Nat.{ℕ, suc, _<_}
+use Prim.Native.Nat.{ℕ, suc, _+_}
+use native.Mathlib.Omega.{arith}
 use Rattle.laws.specs.Times.{times}
-use Rattle.laws.proofs.Times.{times-first}
-use Rattle.bus.specs.Bus.{holds, kept, driven, clocked as Bus·clocked, clocks as Bus·clocks}
-use Rattle.bus.specs.declared.InternalDataBus.{InternalDataBus}
-use Rattle.bus.proofs.Fade.{byte-fades}
+use Rattle.laws.proofs.Times.{times-first, times-add}
 use Rattle.envelope.specs.Envelope.{clocked as Envelope·clocked, clocks as Envelope·clocks}
 use Rattle.envelope.specs.declared.Envelope.{Envelope}
 use Rattle.release.specs.Release.{Settled}
+use Rattle.release.specs.Sustain.{SettledRise}
 use Rattle.release.proofs.Demand3.{demand-3}
-use Rattle.sid.specs.Sid.{Call, write, read, tick, clear, potX, potY, called, after, clocksOf, readAt}
+use Rattle.release.proofs.Sustain.{sustain-holds}
+use Rattle.sid.specs.Sid.{ticked, levelOf, Call, write, read, tick, clear, potX, potY, called, after, clocksOf}
 use Rattle.sid.specs.declared.Voice.{Voice}
 use Rattle.sid.specs.declared.Mos6581.{Mos6581}
-use Rattle.sid.specs.declared.Read.{Read}
-use Rattle.calls.specs.Calls.{Which, of, Each, none, next, spares, floating, undriven, Releases}
-use Rattle.calls.proofs.Voices.{tick-envelope, tick-bus, read-voice, read-floats, pot-x-voice, pot-y-voice, write-envelope}
+use Rattle.calls.specs.Calls.{Which, of, Each, none, next, spares, Releases}
+use Rattle.calls.proofs.Voices.{tick-envelope, read-voice, pot-x-voice, pot-y-voice, write-envelope}
 
 -- the envelope of a voice that is spared sees the ticks alone
 pub envelope-after
@@ -65,32 +64,23 @@ chip-demand-3 w c P h =
       );
     }
 
--- a bus that nothing drives sees the ticks alone
-pub bus-after : (calls : List Call) (c : Mos6581) → Each undriven calls → after calls c .«data_bus» ≡ Bus·clocks (clocksOf calls) (c .«data_bus»)
-unfolding after clocksOf called undriven times
-bus-after [] c none = refl
-bus-after (write address value ∷ calls) c (next h r) =
-    ap (λ (t : Bool). cond t (Bus·clocks (clocksOf calls) (c .«data_bus»)) (after calls (called (write address value) c) .«data_bus»)) h
-bus-after (read address ∷ calls) c (next h r) =
-    bus-after calls (called (read address) c) r ∙ ap (λ (x : Read). Bus·clocks (clocksOf calls) (x .chip .«data_bus»)) (read-floats c address h)
-bus-after (tick ∷ calls) c (next h r) =
-    bus-after calls (called tick c) r
-    ∙ ap (Bus·clocks (clocksOf calls)) (tick-bus c)
-    ∙ sym (times-first Bus·clocked (clocksOf calls) (c .«data_bus»))
-bus-after (clear ∷ calls) c (next h r) =
-    ap (λ (t : Bool). cond t (Bus·clocks (clocksOf calls) (c .«data_bus»)) (after calls (called clear c) .«data_bus»)) h
-bus-after (potX value ∷ calls) c (next h r) = bus-after calls (called (potX value) c) r
-bus-after (potY value ∷ calls) c (next h r) = bus-after calls (called (potY value) c) r
-
--- THE FADING LAW: after a drive of v and any calls that neither drive nor reset, with n ticks, a floating read gives exactly the bits whose hold exceeds n
-pub read-fades
-    : (v : ℕ) (calls : List Call) (c : Mos6581) (address : ℕ)
-    → v < 256
-    → c .«data_bus» ≡ driven v
-    → Each undriven calls
-    → floating address ≡ true
-    → readAt (after calls c) address .byte ≡ kept holds v (clocksOf calls)
-read-fades v calls c address l e r f =
-    ap (λ (x : Read). x .byte) (read-floats (after calls c) address f)
-    ∙ ap (λ (b : InternalDataBus). b .value) (bus-after calls c r ∙ ap (Bus·clocks (clocksOf calls)) e)
-    ∙ byte-fades v (clocksOf calls) l
+-- 'Sustain 0xf0 holds at 0xff': from the tick that brings a settled rise there, through any calls that spare the voice
+pub chip-sustains
+    : (w : Which) (calls more : List Call) (c : Mos6581)
+    → SettledRise (of w c .envelope)
+    → of w c .envelope .«hold_level» ≡ 0xff
+    → Each (spares w) calls
+    → Each (spares w) more
+    → (levelOf (of w (after calls c)) ≡ 0xff → ⊥)
+    → levelOf (of w (ticked (after calls c))) ≡ 0xff
+    → levelOf (of w (after more (ticked (after calls c)))) ≡ 0xff
+unfolding times
+chip-sustains w calls more c h s r q below top =
+    let e = of w c .envelope in
+    let n = clocksOf calls in
+    let volume : Envelope → ℕ = λ x. x .volume in
+    let before = envelope-after w calls c r in
+    let on : of w (ticked (after calls c)) .envelope ≡ Envelope·clocks (suc n) e = tick-envelope w (after calls c) ∙ ap Envelope·clocked before in
+    let later = envelope-after w more (ticked (after calls c)) q ∙ ap (Envelope·clocks (clocksOf more)) on in
+    ap volume (later ∙ times-add Envelope·clocked (clocksOf more) (suc n) e)
+    ∙ sustain-holds e h s n (λ k. below (ap volume before ∙ k)) (ap volume (sym on) ∙ top) (suc n + clocksOf more) (omega arith)

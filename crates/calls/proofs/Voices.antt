@@ -1,6 +1,7 @@
--- What each call does to any voice and to the bus. Assumes nothing.
-use mathlib.Core.Path.{_≡_, refl, ap, _∙_}
-use mathlib.Core.Bool.{Bool, true, false, cond, not, _&&_, _||_}
+-- What each call does to any voice and to the bus, and what all calls keep of a voice. Assumes nothing.
+use mathlib.Core.Path.{_≡_, refl, ap, sym, subst, _∙_}
+use mathlib.Core.Bool.{Bool, true, false, cond, not, _&&_, _||_, false≢true, true≢false}
+use mathlib.Core.List.{List, [], _∷_}
 use Prim.Native.Nat.{ℕ, _/_, _%_, _<_}
 use native.Mathlib.Omega.{arith}
 use lib.Dec.{eqb, ltb}
@@ -11,9 +12,9 @@ use Rattle.bus.specs.Bus.{driven, clocked as Bus·clocked}
 use Rattle.bus.specs.declared.InternalDataBus.{InternalDataBus}
 use Rattle.envelope.specs.Envelope.{clocked as Envelope·clocked, targetRefreshed, attackDecaySet, sustainReleaseSet, gateSet}
 use Rattle.envelope.specs.declared.Envelope.{Envelope}
-use Rattle.oscillator.specs.Oscillator.{writtenControl, resetPhase, testedTone, written as Oscillator·written}
+use Rattle.oscillator.specs.Oscillator.{writtenControl, tuned, resetPhase, testedTone, written as Oscillator·written}
 use Rattle.oscillator.specs.declared.Oscillator.{Oscillator}
-use Rattle.sid.specs.Sid.{freshVoice, fresh, register, osc3, env3, withBus, resetVoice, reset, writtenVoice, writtenTo, written, readDriven, readAt, withPotX, withPotY, clockedVoice, clocked, voiced, voiced0, voiced1, voiced2, synchronisedIf, synchronised, ticked}
+use Rattle.sid.specs.Sid.{freshVoice, fresh, register, withBus, resetVoice, reset, writtenVoice, writtenTo, written, readDriven, readAt, withPotX, withPotY, clockedVoice, clocked, voiced, voiced0, voiced1, voiced2, synchronisedIf, synchronised, ticked, Call, write, read, tick, clear, potX, potY, called, after}
 use Rattle.sid.specs.declared.Voice.{Voice}
 use Rattle.sid.specs.declared.Mos6581.{Mos6581}
 use Rattle.sid.specs.declared.Read.{Read}
@@ -33,7 +34,9 @@ tick-voice first c = record { modulator = _; taken = _; same = refl }
 tick-voice second c = record { modulator = _; taken = _; same = refl }
 tick-voice third c = record { modulator = _; taken = _; same = refl }
 
-sync-envelope : (taken : Bool) (v : Voice) (modulator : ℕ) → synchronisedIf taken (voiced (clockedVoice v) modulator) .envelope ≡ Envelope·clocked (v .envelope)
+pub sync-envelope
+    : (taken : Bool) (v : Voice) (modulator : ℕ)
+    → synchronisedIf taken (voiced (clockedVoice v) modulator) .envelope ≡ Envelope·clocked (v .envelope)
 unfolding synchronisedIf voiced clockedVoice
 sync-envelope true v modulator = refl
 sync-envelope false v modulator = refl
@@ -49,29 +52,53 @@ tick-bus c = refl
 
 -- ---- reads, pots, resets, and a fresh chip
 
--- a read changes no voice
+-- a read drives a value and gives it, or floats: it gives the byte on the bus and changes nothing
+data Reads (c : Mos6581) : Bool → Read → Type 0 where
+  drives : (value : ℕ) → Reads c false (readDriven c value)
+  floats : Reads c true (record { chip = c; byte = c .«data_bus» .value })
+
+read-any
+    : (c : Mos6581) (a b d e : Bool) (p q r s : ℕ)
+    → Reads c (not a && (not b && (not d && not e)))
+    (cond a (readDriven c p) (cond b (readDriven c q) (cond d (readDriven c r) (cond e (readDriven c s) (record { chip = c; byte = c .«data_bus» .value })))))
+read-any c true b d e p q r s = drives p
+read-any c false true d e p q r s = drives q
+read-any c false false true e p q r s = drives r
+read-any c false false false true p q r s = drives s
+read-any c false false false false p q r s = floats
+
+reads : (c : Mos6581) (address : ℕ) → Reads c (floating address) (readAt c address)
+unfolding readAt
+reads c address = read-any c (eqb (register address) 0x19) (eqb (register address) 0x1a) (eqb (register address) 0x1b) (eqb (register address) 0x1c) _ _ _ _
+
+-- it changes no voice
 bus-voice : (w : Which) (c : Mos6581) (b : InternalDataBus) → of w (withBus c b) ≡ of w c
 bus-voice first c b = refl
 bus-voice second c b = refl
 bus-voice third c b = refl
 
-abbrev floats : Mos6581 → Read
-floats c = record { chip = c; byte = c .«data_bus» .value }
-
-read-any
-    : (w : Which) (c : Mos6581) (a b d e : Bool) (p q r s : ℕ)
-    → of w (cond a (readDriven c p) (cond b (readDriven c q) (cond d (readDriven c r) (cond e (readDriven c s) (floats c)))) .chip) ≡ of w c
-unfolding readDriven
-read-any w c true b d e p q r s = bus-voice w c (driven p)
-read-any w c false true d e p q r s = bus-voice w c (driven q)
-read-any w c false false true e p q r s = bus-voice w c (driven r)
-read-any w c false false false true p q r s = bus-voice w c (driven s)
-read-any w c false false false false p q r s = refl
-
 pub read-voice : (w : Which) (c : Mos6581) (address : ℕ) → of w (readAt c address .chip) ≡ of w c
-unfolding readAt
-read-voice w c address =
-    read-any w c (eqb (register address) 0x19) (eqb (register address) 0x1a) (eqb (register address) 0x1b) (eqb (register address) 0x1c) (c .«pot_x») (c .«pot_y») (osc3 c) (env3 c)
+unfolding readDriven
+read-voice w c address = go (reads c address)
+  where
+    go : {b : Bool} {r : Read} → Reads c b r → of w (r .chip) ≡ of w c
+    go (drives value) = bus-voice w c (driven value)
+    go floats = refl
+
+pub read-floats : (c : Mos6581) (address : ℕ) → floating address ≡ true → readAt c address ≡ record { chip = c; byte = c .«data_bus» .value }
+read-floats c address = go (reads c address)
+  where
+    go : {b : Bool} {r : Read} → Reads c b r → b ≡ true → r ≡ record { chip = c; byte = c .«data_bus» .value }
+    go (drives value) h = absurd (false≢true h)
+    go floats h = refl
+
+pub read-drives : (c : Mos6581) (address : ℕ) → floating address ≡ false → readAt c address .chip .«data_bus» ≡ driven (readAt c address .byte)
+unfolding readDriven
+read-drives c address = go (reads c address)
+  where
+    go : {b : Bool} {r : Read} → Reads c b r → b ≡ false → r .chip .«data_bus» ≡ driven (r .byte)
+    go (drives value) h = refl
+    go floats h = absurd (true≢false h)
 
 pub pot-x-voice : (w : Which) (c : Mos6581) (value : ℕ) → of w (withPotX c value) ≡ of w c
 pot-x-voice first c value = refl
@@ -82,20 +109,6 @@ pub pot-y-voice : (w : Which) (c : Mos6581) (value : ℕ) → of w (withPotY c v
 pot-y-voice first c value = refl
 pot-y-voice second c value = refl
 pot-y-voice third c value = refl
-
--- a read that doesn't drive changes nothing, and gives the byte on the bus
-left : (a b d e : Bool) (x y z u v : Read) → (not a && (not b && (not d && not e))) ≡ true → cond a x (cond b y (cond d z (cond e u v))) ≡ v
-left true b d e x y z u v h = ap (λ (t : Bool). cond t v x) h
-left false true d e x y z u v h = ap (λ (t : Bool). cond t v y) h
-left false false true e x y z u v h = ap (λ (t : Bool). cond t v z) h
-left false false false true x y z u v h = ap (λ (t : Bool). cond t v u) h
-left false false false false x y z u v h = refl
-
-pub read-floats : (c : Mos6581) (address : ℕ) → floating address ≡ true → readAt c address ≡ record { chip = c; byte = c .«data_bus» .value }
-unfolding readAt
-read-floats c address h =
-    left (eqb (register address) 0x19) (eqb (register address) 0x1a) (eqb (register address) 0x1b) (eqb (register address) 0x1c)
-    (readDriven c (c .«pot_x»)) (readDriven c (c .«pot_y»)) (readDriven c (osc3 c)) (readDriven c (env3 c)) (floats c) h
 
 pub reset-voice : (w : Which) (c : Mos6581) → of w (reset c) ≡ resetVoice (of w c)
 unfolding reset
@@ -116,6 +129,18 @@ unfolding written
 write-voice first c address value = refl
 write-voice second c address value = refl
 write-voice third c address value = refl
+
+-- an oscillator is left as it is, or its frequency or pulse width is written, or its control register
+pub write-oscillator
+    : (P : Oscillator → Type 0) (v : Voice) (r value : ℕ)
+    → ((frequency width : ℕ) → P (tuned (v .oscillator) frequency width))
+    → (eqb r 4 ≡ true → P (Oscillator·written (v .oscillator) value))
+    → P (v .oscillator)
+    → P (writtenVoice v r value .oscillator)
+unfolding writtenVoice
+write-oscillator P v r value t k h =
+    either P (eqb r 0) _ _ (t _ _)
+    (either P (eqb r 1) _ _ (t _ _) (either P (eqb r 2) _ _ (t _ _) (either P (eqb r 3) _ _ (t _ _) (by-test P (eqb r 4) _ _ k (λ _. h)))))
 
 -- what no write changes
 pub record Face : Type 0 where
@@ -141,14 +166,8 @@ control-face o value e = go (o .control .«test_enabled») (writtenControl (o .c
     go false false = refl
 
 oscillator-face : (v : Voice) (r value : ℕ) (e : Envelope) → faceOf (writtenVoice v r value .oscillator) e ≡ faceOf (v .oscillator) e
-unfolding writtenVoice
 oscillator-face v r value e =
-    let P : Oscillator → Type 0 = λ x. faceOf x e ≡ faceOf (v .oscillator) e in
-    either P (eqb r 0) _ _ refl
-    (either P (eqb r 1) _ _ refl
-    (either P (eqb r 2) _ _ refl
-    (either P (eqb r 3) _ _ refl
-    (either P (eqb r 4) _ _ (control-face (v .oscillator) value e) refl))))
+    write-oscillator (λ o. faceOf o e ≡ faceOf (v .oscillator) e) v r value (λ _ _. refl) (λ _. control-face (v .oscillator) value e) refl
 
 envelope-face : (v : Voice) (r value : ℕ) (o : Oscillator) → faceOf o (writtenVoice v r value .envelope) ≡ faceOf o (v .envelope)
 unfolding writtenVoice gateSet attackDecaySet sustainReleaseSet targetRefreshed
@@ -156,7 +175,7 @@ envelope-face v r value o =
     let P : Envelope → Type 0 = λ x. faceOf o x ≡ faceOf o (v .envelope) in
     either P (eqb r 4) _ _ refl (either P (eqb r 5) _ _ refl (either P (eqb r 6) _ _ refl refl))
 
-register-face : (v : Voice) (r value : ℕ) → face (writtenVoice v r value) ≡ face v
+pub register-face : (v : Voice) (r value : ℕ) → face (writtenVoice v r value) ≡ face v
 register-face v r value = oscillator-face v r value (writtenVoice v r value .envelope) ∙ envelope-face v r value (v .oscillator)
 
 pub write-face : (w : Which) (c : Mos6581) (address value : ℕ) → face (of w (written c address value)) ≡ face (of w c)
@@ -182,3 +201,27 @@ pub write-envelope
     → of w (written c address value) .envelope ≡ of w c .envelope
 write-envelope w c address value h =
     ap (λ (v : Voice). v .envelope) (write-voice w c address value) ∙ other-envelope (number w) (of w c) (register address) value h
+
+-- ---- any call, and any calls
+
+-- a claim of a voice that a tick, a reset and a write to its registers keep is kept by every call
+module _
+    (P : Voice → Type 0)
+    (by-tick : (v : Voice) (modulator : ℕ) (taken : Bool) → P v → P (synchronisedIf taken (voiced (clockedVoice v) modulator)))
+    (by-reset : (v : Voice) → P v → P (resetVoice v))
+    (by-write : (v : Voice) (r value : ℕ) → P v → P (writtenVoice v r value)) where
+  pub call-keeps : (w : Which) (call : Call) (c : Mos6581) → P (of w c) → P (of w (called call c))
+  unfolding called writtenTo
+  call-keeps w (write address value) c h =
+      subst P (sym (write-voice w c address value)) (either P (eqb (register address / 7) (number w)) _ _ (by-write (of w c) (register address % 7) value h) h)
+  call-keeps w (read address) c h = subst P (sym (read-voice w c address)) h
+  call-keeps w tick c h = let t = tick-voice w c in subst P (sym (t .same)) (by-tick (of w c) (t .modulator) (t .taken) h)
+  call-keeps w clear c h = subst P (sym (reset-voice w c)) (by-reset (of w c) h)
+  call-keeps w (potX value) c h = subst P (sym (pot-x-voice w c value)) h
+  call-keeps w (potY value) c h = subst P (sym (pot-y-voice w c value)) h
+
+-- what every call keeps any calls keep
+pub calls-keep : (P : Mos6581 → Type 0) → ((call : Call) (c : Mos6581) → P c → P (called call c)) → (calls : List Call) (c : Mos6581) → P c → P (after calls c)
+unfolding after
+calls-keep P keeps [] c h = h
+calls-keep P keeps (call ∷ calls) c h = calls-keep P keeps calls (called call c) (keeps call c h)

@@ -1,14 +1,23 @@
--- Any run of calls (`after calls chip`), seen from one voice and from the bus: which calls a law allows in between, and what the laws say.
--- Demand 3 (`chip-demand-3`) and the fading byte (`read-fades`) stand in proofs/Lifted, the floating code (`chip-floats`) in proofs/Floats, the code,
--- OSC3 and ENV3 (`code-after-tick`, `read-osc3-after-tick`, `read-env3-after-tick`) in proofs/Latched, cycles and resets (`cycles-agree`, `reset-keeps`) in proofs/Kept.
+-- Any run of calls (`after calls chip`), seen from one voice and from the bus: which calls a law allows in between, and
+-- what the laws say. Where they stand in proofs/:
+-- Lifted: demand 3 (`chip-demand-3`) and the sustained level (`chip-sustains`).
+-- Fades: the fading byte (`write-fades`, `driven-read-fades`, `reset-clears`), writes that move no voice
+-- (`write-only-drives`).
+-- Floats: the floating code (`chip-floats`, `chip-floats-fresh`, `read-osc3-floats`).
+-- Latched: the code, OSC3 and ENV3 (`code-after-tick`, `read-osc3-after-tick`, `read-env3-after-tick`).
+-- Sound: facts that every call keeps (`call-sound`, `sound-fresh`).
+-- Kept: cycles (`cycles-agree`), and what a reset keeps (`reset-keeps`).
+-- Runs: `run` among calls (`run-leads`, `run-calls`), and after it an envelope, the byte and a floating code.
 use Prim.Native.Nat.{ℕ, suc, _+_, _-_, _/_, _%_, _^_, _<_, _≤_}
 use mathlib.Core.Path.{_≡_}
 use mathlib.Core.Bool.{Bool, true, false, not, _&&_, _||_}
 use mathlib.Core.List.{List, [], _∷_, _++_}
 use lib.Dec.{eqb, ltb}
 use Rattle.laws.specs.Cycle.{after as Cycle·after}
+use Rattle.noise.specs.Noise.{shown as Noise·shown}
+use Rattle.bus.specs.Bus.{holds, kept}
 use Rattle.release.specs.Release.{steps, landing, Needs}
-use Rattle.sid.specs.Sid.{register, Call, write, read, tick, clear, potX, potY, after, clocksOf, codeOf, levelOf, heldOf}
+use Rattle.sid.specs.Sid.{register, readAt, Call, write, read, tick, clear, potX, potY, after, clocksOf, phaseOf, codeOf, levelOf, heldOf}
 use Rattle.sid.specs.declared.Voice.{Voice}
 use Rattle.sid.specs.declared.Mos6581.{Mos6581}
 
@@ -60,6 +69,10 @@ spares w (potY value) = true
 abbrev pub floating : ℕ → Bool
 floating address = not (eqb (register address) 0x19) && (not (eqb (register address) 0x1a) && (not (eqb (register address) 0x1b) && not (eqb (register address) 0x1c)))
 
+-- the address of a register that no voice has
+abbrev pub Unvoiced : ℕ → Type 0
+Unvoiced address = 0x15 ≤ register address
+
 -- 'with no drive or reset since'
 unfoldable pub undriven : Call → Bool
 undriven (write address value) = false
@@ -77,6 +90,14 @@ leavesOff w tick = true
 leavesOff w clear = false
 leavesOff w (potX value) = true
 leavesOff w (potY value) = true
+
+-- calls that a law allows, n of them ticks, lead from one chip to another; so does `run`, alone and among calls
+-- (`calls-lead`, `run-leads`, `leads-on`)
+pub record Leads (allows : Call → Bool) (from to : Mos6581) (n : ℕ) : Type 0 where
+  pub calls : List Call
+  pub allowed : Each allows calls
+  pub clocks : clocksOf calls ≡ n
+  pub same : after calls from ≡ to
 
 -- neither a tick nor a reset
 unfoldable pub idle : Call → Bool
@@ -113,17 +134,34 @@ pub record Releases (w : Which) (c : Mos6581) (P : ℕ) : Type 0 where
       → Each (spares w) calls → landing (of w c .envelope .«rate_phase») P S D ≤ clocksOf calls
       → (levelOf (of w (after calls c)) ≡ 0) × (heldOf (of w (after calls c)) ≡ true)
 
--- a voice as calls from a fresh chip leave it (`latched-fresh`): the code that it gives is the one that OSC3 shows, and has twelve bits
+-- The fading byte v of a chip, for any calls 'with no drive or reset since': only the ticks among them count.
+-- 'n clocks after a drive, …, the byte keeps exactly its bits whose hold exceeds n'; a floating read gives it
+abbrev pub Fades : ℕ → Mos6581 → Type 0
+Fades v c =
+    (calls : List Call) (address : ℕ) → Each undriven calls → floating address ≡ true
+    → readAt (after calls c) address .byte ≡ kept holds v (clocksOf calls)
+
+-- a voice as calls from a fresh chip leave it (`latched-fresh`): OSC3 shows the code that it gives, which has 12 bits
 pub record Latched (v : Voice) : Type 0 where
   pub shown : v .oscillator .tone .readback ≡ codeOf v
-  pub twelve : codeOf v < 4096
+  pub twelve : codeOf v < 2 ^ 12
+
+-- facts that every call keeps (`call-sound`), and that a chip has that calls make of a fresh one (`sound-fresh`)
+pub record Sound (v : Voice) : Type 0 where
+  -- 'Falling to 0 holds the level'; a reset 'holds it exactly if the level is 0'
+  pub held-is-zero : heldOf v ≡ true → levelOf v ≡ 0
+  -- 'Noise holds 23 stages, … shown through taps': the lines show the stages as they are
+  pub noise-shows : v .oscillator .noise .numbers .visible ≡ Noise·shown (v .oscillator .noise .numbers .state)
+  -- 'The phase is 24 bits'
+  pub phase-fits : phaseOf v < 2 ^ 24
+  -- a code has 12
+  pub latched : Latched v
 
 -- a write 'selecting waveform 0 from another', 'provided the cycle at the capture is below 2^63'
 pub record Captures (w : Which) (c : Mos6581) (address value : ℕ) : Type 0 where
   pub control : register address ≡ controlOf w
   pub off : value / 2 ^ 4 ≡ 0
   pub another : waveformOf (of w c) ≡ 0 → ⊥
-  pub latched : Latched (of w c)
   pub early : cycleOf (of w c) < 2 ^ 63
 
 -- The floating code of a voice of a chip, for any calls that leave it so: only the ticks among them count

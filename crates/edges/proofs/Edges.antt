@@ -1,20 +1,24 @@
 -- The starred cases, from the laws. Assumes nothing.
-use Prim.Native.Nat.{ℕ, _+_, _-_, _*_, _<_}
+use Prim.Native.Nat.{ℕ, _+_, _-_, _*_, _/_, _%_, _<_}
 use native.Mathlib.Omega.{arith}
 use mathlib.Core.Path.{_≡_, refl, subst}
 use Rattle.laws.specs.Times.{times}
 use Rattle.bus.specs.Bus.{holds, kept}
 use Rattle.bus.proofs.Fade.{byte-fades}
-use Rattle.envelope.specs.Envelope.{periodOf, divisorFor, down, fresh, targetRefreshed, sustainReleaseSet}
+use Rattle.envelope.specs.Envelope.{periodOf, divisorFor, down, fresh, rateInForce, targetRefreshed, sustainReleaseSet}
+use Rattle.envelope.specs.Sets.{setHoldLevel, setFallRate}
+use Rattle.envelope.specs.declared.Envelope.{Envelope}
 use Rattle.envelope.proofs.Periods.{period-range, period-zero}
 use Rattle.noise.specs.Noise.{shownTo, fresh as Noise·fresh}
 use Rattle.waveforms.specs.Waveforms.{triangle}
 use Rattle.waveforms.proofs.Loading.{settled-zero, loaded-zero}
 use Rattle.release.specs.Release.{Settled, steps, inForce, divisorAfter, asked, matches, ZeroFrom}
 use Rattle.release.specs.StepClocks.{wait, lag, stepClock}
-use Rattle.edges.specs.Edges.{Matching, Releasing, Falling, Sustaining, Edges}
+use Rattle.release.specs.Sustain.{SettledRise}
+use Rattle.edges.specs.Edges.{Matching, Releasing, Falling, Sustaining, Reaching, Edges}
 use Rattle.release.proofs.Waits.{first-match}
 use Rattle.release.proofs.Stays.{sustain-stays}
+use Rattle.release.proofs.Sustain.{sustain-holds}
 use Rattle.release.proofs.Demand3.{zero-from}
 
 matching : (p : ℕ) → p < 32767 → Matching p 8 (wait 9 p + 1)
@@ -80,6 +84,24 @@ sustaining : (s : ℕ) → Sustaining (s * 16) (s * 17)
 unfolding sustainReleaseSet targetRefreshed
 sustaining s e g h m d v n = sustain-stays (s * 17) n (sustainReleaseSet e (s * 16)) (v, omega arith, g, h, m, d) .0
 
+-- the byte leaves a settled rise one: its target is a period's
+still-rises : (e : Envelope) (byte : ℕ) → SettledRise e → SettledRise (sustainReleaseSet e byte)
+unfolding sustainReleaseSet targetRefreshed
+still-rises e byte h = record {
+  input = h .input;
+  stage-a = h .stage-a;
+  stage-b = h .stage-b;
+  motion = h .motion;
+  motion-delay = h .motion-delay;
+  level-delay = h .level-delay;
+  curve-delay = h .curve-delay;
+  target = omega (arith, period-range (rateInForce (setFallRate (setHoldLevel e (byte / 16 * 17)) (byte % 16))));
+}
+
+reaching : (byte : ℕ) → byte / 16 * 17 ≡ 0xff → Reaching byte
+unfolding sustainReleaseSet targetRefreshed
+reaching byte s e h = sustain-holds (sustainReleaseSet e byte) (still-rises e byte h) s
+
 pub edges : Edges
 unfolding kept holds matches steps wait lag fresh triangle Noise·fresh shownTo
 edges = record {
@@ -101,4 +123,5 @@ edges = record {
   noise-fe0 = refl;
   settled-0 = λ s. (settled-zero s, loaded-zero s);
   sustain-f0 = sustaining 15;
+  sustain-f0-reached = reaching _ refl;
 }

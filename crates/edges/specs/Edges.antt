@@ -7,6 +7,7 @@ use Rattle.envelope.specs.declared.Envelope.{Envelope}
 use Rattle.envelope.specs.declared.EnvelopeMotion.the-variants.{FallingToSustain}
 use Rattle.envelope.specs.Envelope.{periodOf, clocks, quiescent, fresh, sustainReleaseSet}
 use Rattle.release.specs.Release.{Settled, steps, matches, FirstMatch, ZeroFrom}
+use Rattle.release.specs.Sustain.{SettledRise, HoldsTop}
 use Rattle.waveforms.specs.Waveforms.{triangle, settled, loaded}
 use Rattle.noise.specs.Noise.{fresh as Noise·fresh}
 
@@ -22,7 +23,8 @@ Releasing v d n = (e : Envelope) → Settled e (periodOf 0) → e .volume ≡ v 
 abbrev pub Falling : ℕ → ℕ → ℕ → Type 0
 Falling v d S = (e : Envelope) → e .volume ≡ v → e .«curve_divisor» ≡ d → e .«curve_count» ≡ 0 → matches e (steps (e .volume)) ≡ S
 
--- of every envelope that falls to sustain, with its gate at rest and no motion pending: the sustain/release byte holds it at level v
+-- of every envelope that falls to sustain, with its gate at rest and no motion pending: the sustain/release byte holds
+-- it at level v
 abbrev pub Sustaining : ℕ → ℕ → Type 0
 Sustaining byte v =
     (e : Envelope)
@@ -32,6 +34,10 @@ Sustaining byte v =
     → e .«motion_delay» ≡ 0
     → e .volume ≡ v
     → (n : ℕ) → clocks n (sustainReleaseSet e byte) .volume ≡ v
+
+-- of every settled rise: with that sustain/release byte, the level is 0xff from the clock on which it reaches it
+abbrev pub Reaching : ℕ → Type 0
+Reaching byte = (e : Envelope) → SettledRise e → HoldsTop (sustainReleaseSet e byte)
 
 pub record Edges : Type 0 where
   -- 'Bus 0xff: bit 0 there at 11 clocks, gone at 12. 0x80 at 43007, 0 at 43008.'
@@ -59,5 +65,6 @@ pub record Edges : Type 0 where
   pub noise-fe0 : Noise·fresh .numbers .visible ≡ 0xfe0
   -- 'Settled 0 is 0 for every selection': in a table and in the tick
   pub settled-0 : (s : ℕ) → (settled s 0 ≡ 0) × (loaded s 0 ≡ 0)
-  -- 'Sustain 0xf0 holds at 0xff.'
+  -- 'Sustain 0xf0 holds at 0xff': while falling to sustain, and from the clock on which a rise reaches 0xff
   pub sustain-f0 : Sustaining 0xf0 0xff
+  pub sustain-f0-reached : Reaching 0xf0

@@ -4,4 +4,5 @@ pub mod Keeps
 pub mod Release
 pub mod Stays
 pub mod Steps
+pub mod Sustain
 pub mod Waits

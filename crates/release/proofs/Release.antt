@@ -19,7 +19,7 @@ use Rattle.release.proofs.Clocks.{falling, match-counts, match-due, cur
 use Rattle.release.proofs.Stays.{held-stays}
 use Rattle.release.proofs.Steps.{down-lt, steps-closed, steps-more, steps-last, divisor-le, in-force-range, lag-range, divisor-first, asked-one, asked-first}
 
--- the clock of step k, and of the first, where a match with curve count c, divisor d and level v comes to wait after r clocks
+-- the clock of step k, and of the first, where a match comes to wait after r clocks, with count c, divisor d, level v
 clk : ℕ → ℕ → ℕ → ℕ → ℕ → ℕ → ℕ
 clk P r c d v zero = 0
 clk P r c d v (suc k) = r + 1 + (asked v d (suc k) - c - 1) * P + lag (divisorAfter v d k)

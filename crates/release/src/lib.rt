@@ -1,5 +1,6 @@
-// The settled release (document 01): demand 3 is a claim about the definitions of the crate envelope, stated in specs/Release.antt
-// and proved in proofs/Demand3.antt. The code runs an envelope for a while.
+// The settled release (document 01): demand 3 is a claim about the definitions of the crate envelope, stated in
+// specs/Release.antt and proved in proofs/Demand3.antt; 'Sustain 0xf0 holds at 0xff' stands beside it, in Sustain.antt.
+// The code runs an envelope for a while.
 use envelope::Envelope;
 ghost use mathlib.Core.Path.{_≡_};
 ghost use Rattle.envelope.specs.Envelope.{clocks};

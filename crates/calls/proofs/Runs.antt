@@ -1,0 +1,91 @@
+-- `run` among calls: the n clocks that it makes (`ticks n`) count as n ticks in every law of any run of calls, alone
+-- and between other calls. Assumes nothing.
+use mathlib.Core.Path.{_≡_, refl, ap, subst, _∙_}
+use mathlib.Core.Bool.{Bool, true}
+use mathlib.Core.List.{List, [], _∷_, _++_}
+use Prim.Native.Nat.{ℕ, zero, suc, _+_, _≤_}
+use native.Mathlib.Omega.{arith}
+use Rattle.bus.specs.Bus.{holds, kept}
+use Rattle.envelope.specs.Envelope.{clocks as Envelope·clocks}
+use Rattle.sid.specs.Sid.{readAt, ticks, codeOf, Call, write, read, tick, clear, potX, potY, after, ticksThen, clocksOf}
+use Rattle.sid.specs.declared.Mos6581.{Mos6581}
+use Rattle.sid.proofs.Calls.{after-join, after-ticks, count-ticks}
+use Rattle.calls.specs.Calls.{Which, of, Each, none, next, spares, floating, undriven, leavesOff, Leads, Fades, Floats}
+use Rattle.calls.proofs.Lifted.{envelope-after}
+
+clocks-join : (calls more : List Call) → clocksOf (calls ++ more) ≡ clocksOf calls + clocksOf more
+unfolding clocksOf
+clocks-join [] more = omega arith
+clocks-join (write address value ∷ calls) more = clocks-join calls more
+clocks-join (read address ∷ calls) more = clocks-join calls more
+clocks-join (tick ∷ calls) more = omega (arith, clocks-join calls more)
+clocks-join (clear ∷ calls) more = clocks-join calls more
+clocks-join (potX value ∷ calls) more = clocks-join calls more
+clocks-join (potY value ∷ calls) more = clocks-join calls more
+
+module _ {allows : Call → Bool} where
+  each-join : {calls more : List Call} → Each allows calls → Each allows more → Each allows (calls ++ more)
+  each-join none s = s
+  each-join (next h r) s = next h (each-join r s)
+
+  each-ticks : (n : ℕ) {calls : List Call} → allows tick ≡ true → Each allows calls → Each allows (ticksThen n calls)
+  unfolding ticksThen
+  each-ticks zero h r = r
+  each-ticks (suc n) h r = next h (each-ticks n h r)
+
+  -- calls lead on, `run` does where a tick is allowed, and so does one after the other
+  pub calls-lead : (calls : List Call) (c : Mos6581) → Each allows calls → Leads allows c (after calls c) (clocksOf calls)
+  calls-lead calls c r = record { calls = calls; allowed = r; clocks = refl; same = refl }
+
+  pub run-leads : (n : ℕ) (c : Mos6581) → allows tick ≡ true → Leads allows c (ticks n c) n
+  unfolding after clocksOf
+  run-leads n c h = record {
+    calls = ticksThen n [];
+    allowed = each-ticks n h none;
+    clocks = omega (arith, count-ticks n []);
+    same = after-ticks n [] c;
+  }
+
+  pub leads-on : {c d e : Mos6581} {n m : ℕ} → Leads allows c d n → Leads allows d e m → Leads allows c e (n + m)
+  leads-on {c} a b = record {
+    calls = a .calls ++ b .calls;
+    allowed = each-join (a .allowed) (b .allowed);
+    clocks = omega (arith, clocks-join (a .calls) (b .calls), a .clocks, b .clocks);
+    same = after-join (a .calls) (b .calls) c ∙ ap (after (b .calls)) (a .same) ∙ b .same;
+  }
+
+  -- WHATEVER HOLDS after any allowed calls with n ticks holds after calls mixed with runs
+  pub run-calls
+      : {c d : Mos6581} {n : ℕ}
+      → Leads allows c d n
+      → (P : Mos6581 → Type 0)
+      → ((calls : List Call) → Each allows calls → clocksOf calls ≡ n → P (after calls c))
+      → P d
+  run-calls l P h = subst P (l .same) (h (l .calls) (l .allowed) (l .clocks))
+
+-- ---- so of the chip that `run` gives: its contract is `r ≡ ticks n chip`
+
+-- an envelope has made n clocks, of which `demand-3` and `sustain-holds` speak
+pub run-envelope : (w : Which) (n : ℕ) (c : Mos6581) → of w (ticks n c) .envelope ≡ Envelope·clocks n (of w c .envelope)
+unfolding spares
+run-envelope w n c =
+    run-calls (run-leads {allows = spares w} n c refl) (λ (x : Mos6581). of w x .envelope ≡ Envelope·clocks n (of w c .envelope))
+    (λ calls r q. envelope-after w calls c r ∙ ap (λ (m : ℕ). Envelope·clocks m (of w c .envelope)) q)
+
+-- a byte has faded for n clocks
+pub run-fades : (v : ℕ) (c : Mos6581) (n address : ℕ) → Fades v c → floating address ≡ true → readAt (ticks n c) address .byte ≡ kept holds v n
+unfolding undriven
+run-fades v c n address h f =
+    run-calls (run-leads {allows = undriven} n c refl) (λ (x : Mos6581). readAt x address .byte ≡ kept holds v n)
+    (λ calls r q. h calls address r f ∙ ap (kept holds v) q)
+
+-- a floating code is whole or gone
+pub run-floats
+    : (w : Which) (c : Mos6581) (code n : ℕ)
+    → Floats w c code
+    → (n ≤ 1260019 → codeOf (of w (ticks n c)) ≡ code) × (1260020 ≤ n → codeOf (of w (ticks n c)) ≡ 0)
+unfolding leavesOff
+run-floats w c code n h =
+    run-calls (run-leads {allows = leavesOff w} n c refl)
+    (λ (x : Mos6581). (n ≤ 1260019 → codeOf (of w x) ≡ code) × (1260020 ≤ n → codeOf (of w x) ≡ 0))
+    (λ calls r q. ((λ l. h .whole calls r (omega arith)), (λ l. h .gone calls r (omega arith))))

@@ -1,0 +1,121 @@
+-- A held level is 0, noise lines show their stages, a phase has 24 bits and a code 12: every call keeps this of any
+-- voice. Assumes nothing.
+use mathlib.Core.Path.{_≡_, sym, subst}
+use mathlib.Core.Bool.{Bool, true, false, not, _&&_, false≢true}
+use mathlib.Core.List.{List}
+use Prim.Native.Nat.{ℕ, _^_, _<_}
+use native.Mathlib.Omega.{arith}
+use lib.Dec.{eqb}
+use borrow.Author.Tests.{eqb-true}
+use Rattle.laws.proofs.Cond.{either}
+use Rattle.envelope.specs.Envelope.{targetRefreshed, attackDecaySet, sustainReleaseSet, gateSet, fresh as Envelope·fresh, reset as Envelope·reset}
+use Rattle.envelope.specs.declared.Envelope.{Envelope}
+use Rattle.release.proofs.Stays.{held-is-zero}
+use Rattle.noise.specs.declared.NoiseGenerator.{NoiseGenerator}
+use Rattle.noise.proofs.Shows.{Shows, fresh-shows, stepped-shows, coupled-shows, pulled-shows, entered-shows, left-shows}
+use Rattle.oscillator.specs.Oscillator.{fresh as Oscillator·fresh, clockedTone, clocked as Oscillator·clocked, comparedTone, evaluated, feedsBack, fedBackTone, fedBack, latchedTone, couples, pullsDown, coupledNoise, pulledNoise, latchedNoise, latchedCode, testedNoise, resetPhase, testedTone, written as Oscillator·written, synchronised as Oscillator·synchronised, voiced as Oscillator·voiced}
+use Rattle.oscillator.specs.declared.Control.{Control}
+use Rattle.oscillator.specs.declared.Tone.{Tone}
+use Rattle.sid.specs.Sid.{freshVoice, fresh, resetVoice, writtenVoice, clockedVoice, voiced, synchronisedIf, phaseOf, Call, called, after}
+use Rattle.sid.specs.declared.Voice.{Voice}
+use Rattle.sid.specs.declared.Mos6581.{Mos6581}
+use Rattle.calls.specs.Calls.{Which, of, Sound}
+use Rattle.calls.proofs.Voices.{sync-envelope, fresh-voice, write-oscillator, register-face, call-keeps, calls-keep}
+use Rattle.calls.proofs.Latched.{voice-latched, fresh-latched, face-latched}
+
+-- ---- held implies level 0
+
+abbrev Zero : Envelope → Type 0
+Zero e = e .«floor_hold» ≡ true → e .volume ≡ 0
+
+gate-zero : (e : Envelope) (high : Bool) → Zero e → Zero (gateSet e high)
+unfolding gateSet targetRefreshed
+gate-zero e high h = either (λ (t : Bool). t ≡ true → e .volume ≡ 0) (high && not (e .gate .input)) _ _ (λ t. absurd (false≢true t)) h
+
+write-zero : (v : Voice) (r value : ℕ) → Zero (v .envelope) → Zero (writtenVoice v r value .envelope)
+unfolding writtenVoice attackDecaySet sustainReleaseSet targetRefreshed
+write-zero v r value h =
+    either Zero (eqb r 4) _ _ (gate-zero (v .envelope) _ h) (either Zero (eqb r 5) _ _ h (either Zero (eqb r 6) _ _ h h))
+
+reset-zero : (e : Envelope) → Zero (Envelope·reset e)
+unfolding Envelope·reset
+reset-zero e t = eqb-true (e .volume) 0 t
+
+-- ---- the noise lines show the stages
+
+latched-shows : (g : NoiseGenerator) (k : Control) (output cycle : ℕ) → Shows g → Shows (latchedNoise g k output cycle)
+unfolding latchedNoise pulledNoise coupledNoise
+latched-shows g k output cycle h =
+    let coupling = either Shows (couples k) _ _ (coupled-shows g output h) h in
+    either Shows (pullsDown k _ cycle) _ _ (pulled-shows _ output cycle) coupling
+
+tested-shows : (g : NoiseGenerator) (old new : Control) (t : Tone) → Shows g → Shows (testedNoise g old new t)
+unfolding testedNoise
+tested-shows g old new t h =
+    either Shows (old .«test_enabled») _ _
+    (either Shows (new .«test_enabled») _ _ h (left-shows _ (t .cycle)))
+    (either Shows (new .«test_enabled») _ _ (entered-shows g (t .cycle) h) h)
+
+tick-shows
+    : (v : Voice) (modulator : ℕ) (taken : Bool)
+    → Shows (v .oscillator .noise)
+    → Shows (synchronisedIf taken (voiced (clockedVoice v) modulator) .oscillator .noise)
+unfolding synchronisedIf Oscillator·synchronised voiced clockedVoice Oscillator·voiced latchedCode fedBack evaluated Oscillator·clocked
+tick-shows v modulator true h = latched-shows _ (v .oscillator .control) _ _ (stepped-shows (v .oscillator .noise) _ _ _ h)
+tick-shows v modulator false h = latched-shows _ (v .oscillator .control) _ _ (stepped-shows (v .oscillator .noise) _ _ _ h)
+
+write-shows : (v : Voice) (r value : ℕ) → Shows (v .oscillator .noise) → Shows (writtenVoice v r value .oscillator .noise)
+unfolding Oscillator·written
+write-shows v r value h = write-oscillator (λ o. Shows (o .noise)) v r value (λ _ _. h) (λ _. tested-shows (v .oscillator .noise) _ _ _ h) h
+
+-- ---- the phase has 24 bits
+
+abbrev Fits : ℕ → Type 0
+Fits n = n < 2 ^ 24
+
+tick-fits : (v : Voice) (modulator : ℕ) (taken : Bool) → Fits (phaseOf (synchronisedIf taken (voiced (clockedVoice v) modulator)))
+unfolding synchronisedIf Oscillator·synchronised resetPhase voiced clockedVoice Oscillator·voiced latchedCode latchedTone fedBack fedBackTone evaluated comparedTone Oscillator·clocked clockedTone
+tick-fits v modulator true = omega arith
+tick-fits v modulator false =
+    either Fits (feedsBack (v .oscillator .control) _) _ _ (omega arith) (either Fits (v .oscillator .control .«test_enabled») _ _ (omega arith) (omega arith))
+
+tested-fits : (t : Tone) (old new : Bool) → Fits (t .accumulator) → Fits (testedTone t old new .accumulator)
+unfolding testedTone resetPhase
+tested-fits t true new h = h
+tested-fits t false true h = omega arith
+tested-fits t false false h = h
+
+write-fits : (v : Voice) (r value : ℕ) → Fits (phaseOf v) → Fits (phaseOf (writtenVoice v r value))
+unfolding Oscillator·written
+write-fits v r value h = write-oscillator (λ o. Fits (o .tone .accumulator)) v r value (λ _ _. h) (λ _. tested-fits (v .oscillator .tone) _ _ h) h
+
+-- ---- all of it
+
+pub call-sound : (w : Which) (call : Call) (c : Mos6581) → Sound (of w c) → Sound (of w (called call c))
+unfolding resetVoice Oscillator·fresh
+call-sound =
+    call-keeps Sound
+    (λ v modulator taken h. record {
+      held-is-zero = subst Zero (sym (sync-envelope taken v modulator)) (held-is-zero (v .envelope) (h .held-is-zero));
+      noise-shows = tick-shows v modulator taken (h .noise-shows);
+      phase-fits = tick-fits v modulator taken;
+      latched = voice-latched v modulator taken;
+    })
+    (λ v h. record { held-is-zero = reset-zero (v .envelope); noise-shows = fresh-shows; phase-fits = h .phase-fits; latched = fresh-latched _ _ })
+    (λ v r value h. record {
+      held-is-zero = write-zero v r value (h .held-is-zero);
+      noise-shows = write-shows v r value (h .noise-shows);
+      phase-fits = write-fits v r value (h .phase-fits);
+      latched = face-latched (writtenVoice v r value) v (register-face v r value) (h .latched);
+    })
+
+pub sound-after : (w : Which) (calls : List Call) (c : Mos6581) → Sound (of w c) → Sound (of w (after calls c))
+sound-after w = calls-keep (λ c. Sound (of w c)) (call-sound w)
+
+fresh-sound : Sound freshVoice
+unfolding Oscillator·fresh Envelope·fresh
+fresh-sound = record { held-is-zero = λ t. absurd (false≢true t); noise-shows = fresh-shows; phase-fits = omega arith; latched = fresh-latched _ _ }
+
+-- SOUND is every voice of every chip that calls make of a fresh one
+pub sound-fresh : (w : Which) (calls : List Call) → Sound (of w (after calls fresh))
+sound-fresh w calls = sound-after w calls fresh (subst Sound (sym (fresh-voice w)) fresh-sound)
