@@ -9,7 +9,7 @@ use Rattle.laws.proofs.Times.{times-first, times-add}
 use Rattle.envelope.specs.Envelope.{clocked as Envelope·clocked, clocks as Envelope·clocks}
 use Rattle.envelope.specs.declared.Envelope.{Envelope}
 use Rattle.release.specs.Release.{Settled}
-use Rattle.release.specs.Sustain.{SettledRise}
+use Rattle.release.specs.Sustain.{SteadyRise}
 use Rattle.release.proofs.Demand3.{demand-3}
 use Rattle.release.proofs.Sustain.{sustain-holds}
 use Rattle.sid.specs.Sid.{ticked, levelOf, Call, write, read, tick, clear, potX, potY, called, after, clocksOf}
@@ -64,10 +64,10 @@ chip-demand-3 w c P h =
       );
     }
 
--- 'Sustain 0xf0 holds at 0xff': from the tick that brings a settled rise there, through any calls that spare the voice
+-- 'Sustain 0xf0 holds at 0xff': from the tick that brings a steady rise there, through any calls that spare the voice
 pub chip-sustains
     : (w : Which) (calls more : List Call) (c : Mos6581)
-    → SettledRise (of w c .envelope)
+    → SteadyRise (of w c .envelope)
     → of w c .envelope .«hold_level» ≡ 0xff
     → Each (spares w) calls
     → Each (spares w) more

@@ -14,7 +14,7 @@ use Rattle.waveforms.specs.Waveforms.{triangle}
 use Rattle.waveforms.proofs.Loading.{settled-zero, loaded-zero}
 use Rattle.release.specs.Release.{Settled, steps, inForce, divisorAfter, asked, matches, ZeroFrom}
 use Rattle.release.specs.StepClocks.{wait, lag, stepClock}
-use Rattle.release.specs.Sustain.{SettledRise}
+use Rattle.release.specs.Sustain.{SteadyRise}
 use Rattle.edges.specs.Edges.{Matching, Releasing, Falling, Sustaining, Reaching, Edges}
 use Rattle.release.proofs.Waits.{first-match}
 use Rattle.release.proofs.Stays.{sustain-stays}
@@ -84,8 +84,8 @@ sustaining : (s : ℕ) → Sustaining (s * 16) (s * 17)
 unfolding sustainReleaseSet targetRefreshed
 sustaining s e g h m d v n = sustain-stays (s * 17) n (sustainReleaseSet e (s * 16)) (v, omega arith, g, h, m, d) .0
 
--- the byte leaves a settled rise one: its target is a period's
-still-rises : (e : Envelope) (byte : ℕ) → SettledRise e → SettledRise (sustainReleaseSet e byte)
+-- the byte leaves a steady rise one: its target is a period's
+still-rises : (e : Envelope) (byte : ℕ) → SteadyRise e → SteadyRise (sustainReleaseSet e byte)
 unfolding sustainReleaseSet targetRefreshed
 still-rises e byte h = record {
   input = h .input;

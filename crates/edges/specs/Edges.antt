@@ -7,7 +7,7 @@ use Rattle.envelope.specs.declared.Envelope.{Envelope}
 use Rattle.envelope.specs.declared.EnvelopeMotion.the-variants.{FallingToSustain}
 use Rattle.envelope.specs.Envelope.{periodOf, clocks, quiescent, fresh, sustainReleaseSet}
 use Rattle.release.specs.Release.{Settled, steps, matches, FirstMatch, ZeroFrom}
-use Rattle.release.specs.Sustain.{SettledRise, HoldsTop}
+use Rattle.release.specs.Sustain.{SteadyRise, HoldsTop}
 use Rattle.waveforms.specs.Waveforms.{triangle, settled, loaded}
 use Rattle.noise.specs.Noise.{fresh as Noise·fresh}
 
@@ -35,9 +35,9 @@ Sustaining byte v =
     → e .volume ≡ v
     → (n : ℕ) → clocks n (sustainReleaseSet e byte) .volume ≡ v
 
--- of every settled rise: with that sustain/release byte, the level is 0xff from the clock on which it reaches it
+-- of every steady rise: with that sustain/release byte, the level is 0xff from the clock on which it reaches it
 abbrev pub Reaching : ℕ → Type 0
-Reaching byte = (e : Envelope) → SettledRise e → HoldsTop (sustainReleaseSet e byte)
+Reaching byte = (e : Envelope) → SteadyRise e → HoldsTop (sustainReleaseSet e byte)
 
 pub record Edges : Type 0 where
   -- 'Bus 0xff: bit 0 there at 11 clocks, gone at 12. 0x80 at 43007, 0 at 43008.'

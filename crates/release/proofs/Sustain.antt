@@ -1,4 +1,4 @@
--- 'Sustain 0xf0 holds at 0xff': with that sustain level, a settled rise that reaches 0xff stays there. Assumes nothing.
+-- 'Sustain 0xf0 holds at 0xff': with that sustain level, a steady rise that reaches 0xff stays there. Assumes nothing.
 use Prim.Native.Nat.{ℕ, zero, suc, _+_, _-_, _%_, _≤_}
 use native.Mathlib.Omega.{arith}
 use mathlib.Core.Path.{_≡_, refl, ap, sym, _∙_, subst}
@@ -16,7 +16,7 @@ use Rattle.envelope.specs.declared.EnvelopeMotion.the-variants.{Rising, Falling
 use Rattle.envelope.specs.declared.GateHistory.{GateHistory}
 use Rattle.envelope.specs.Envelope.{risingRateSelected, targetRefreshed, levelRead, divisorCommitted, gateSampled, motionTaken, motionCommitted, divisorSelected, topReached, up, steppedUp, stepped, amplitudeDue, amplitudeClocked, curveClocked, curveCounted, matchUsed, matchConsumed, phaseUp, rateClocked, clocked, clocks}
 use Rattle.envelope.proofs.Quiet.{gate-still, motion-still}
-use Rattle.release.specs.Sustain.{SettledRise, Topped, HoldsTop}
+use Rattle.release.specs.Sustain.{SteadyRise, Topped, HoldsTop}
 use Rattle.release.proofs.Waits.{phase-up}
 use Rattle.release.proofs.Stays.{Of, divisor-keeps, counters-keep, level-keeps, Sustained, sustained-level, sustain-stays}
 
@@ -277,7 +277,7 @@ rise-clocks (suc n) e r f =
     (rise-clocks n e r f)
 
 -- THE LAW
-pub sustain-holds : (e : Envelope) → SettledRise e → e .«hold_level» ≡ 0xff → HoldsTop e
+pub sustain-holds : (e : Envelope) → SteadyRise e → e .«hold_level» ≡ 0xff → HoldsTop e
 unfolding times
 sustain-holds e h s n below top m l =
     let x = clocks n e in

@@ -6,8 +6,8 @@ use Rattle.envelope.specs.declared.Envelope.{Envelope}
 use Rattle.envelope.specs.declared.EnvelopeMotion.the-variants.{Rising, FallingToSustain}
 use Rattle.envelope.specs.Envelope.{clocks}
 
--- a settled rise, in the words of 'Settled release'; a match may wait, and level, phase and curve are free
-pub record SettledRise (e : Envelope) : Type 0 where
+-- a rise with its gate left high and nothing delayed; a match may wait, and level, phase and curve are free
+pub record SteadyRise (e : Envelope) : Type 0 where
   -- gate input and both samples high
   pub input : e .gate .input ≡ true
   pub stage-a : e .gate .«stage_a» ≡ true
