@@ -69,6 +69,10 @@ spaced b = space ++ hex2 b
 unfoldable pub voice : Shown → List ℕ
 voice v = space ++ (hex3 (v .code) ++ spaced (v .level))
 
+-- the room that a line is given: more bytes than any line has
+abbrev pub lineRoom : ℕ
+lineRoom = 64
+
 -- 'R stamp address read'; 82 is R
 unfoldable pub readLine : ℕ → ℕ → ℕ → List ℕ
 readLine stamp address value = opening 82 stamp ++ (spaced address ++ (spaced value ++ lineFeed))

@@ -1,10 +1,13 @@
-// The lines that `replay` prints (document 01, 'Score and program'), each put at the start of a lent buffer of 64 bytes, more than any line has.
+// The lines that `replay` prints (document 01, 'Score and program'), each put at the start of a lent buffer of `LINE` bytes.
 use refusals::Refused;
 ghost use mathlib.Core.Path.{_≡_};
 ghost use Prim.Native.Nat.{_+_, _≤_, _<_};
 ghost use lib.ListN.{length};
 ghost use Rattle.refusals.specs.Refusals.{told};
-ghost use Rattle.listing.specs.Text.{Put, fits, copied, one, decimal, hexDigit, hex2, hex3, opening, spaced, voice, readLine, levelsLine, endLine, refusedLine};
+ghost use Rattle.listing.specs.Text.{Put, fits, copied, one, decimal, hexDigit, hex2, hex3, opening, spaced, voice, lineRoom, readLine, levelsLine, endLine, refusedLine};
+
+// More bytes than any line has.
+pub const LINE: usize = 64;
 
 // What an `L` line says of a voice.
 pub struct Shown {
@@ -119,8 +122,8 @@ fn put_voice(out: &mut [u8], at: usize, v: Shown) -> usize
     put_spaced(out, b, v.level)
 }
 
-pub fn read_line(out: &mut [u8; 64], stamp: u32, address: u8, value: u8) -> usize
-    ensures { λ r. ⌜ Put (now (out .entry)) 0 (readLine stamp address value) r (now (out .exit)) × (r ≤ 64) ⌝ }
+pub fn read_line(out: &mut [u8; LINE], stamp: u32, address: u8, value: u8) -> usize
+    ensures { λ r. ⌜ Put (now (out .entry)) 0 (readLine stamp address value) r (now (out .exit)) × (r ≤ lineRoom) ⌝ }
 {
     let a = put_opening(out, b'R', stamp);
     let b = put_spaced(out, a, address);
@@ -128,8 +131,8 @@ pub fn read_line(out: &mut [u8; 64], stamp: u32, address: u8, value: u8) -> usiz
     put(out, c, b'\n')
 }
 
-pub fn levels_line(out: &mut [u8; 64], stamp: u32, v0: Shown, v1: Shown, v2: Shown) -> usize
-    ensures { λ r. ⌜ Put (now (out .entry)) 0 (levelsLine stamp v0 v1 v2) r (now (out .exit)) × (r ≤ 64) ⌝ }
+pub fn levels_line(out: &mut [u8; LINE], stamp: u32, v0: Shown, v1: Shown, v2: Shown) -> usize
+    ensures { λ r. ⌜ Put (now (out .entry)) 0 (levelsLine stamp v0 v1 v2) r (now (out .exit)) × (r ≤ lineRoom) ⌝ }
 {
     let a = put_opening(out, b'L', stamp);
     let b = put_voice(out, a, v0);
@@ -138,15 +141,15 @@ pub fn levels_line(out: &mut [u8; 64], stamp: u32, v0: Shown, v1: Shown, v2: Sho
     put(out, d, b'\n')
 }
 
-pub fn end_line(out: &mut [u8; 64], clocks: u32) -> usize
-    ensures { λ r. ⌜ Put (now (out .entry)) 0 (endLine clocks) r (now (out .exit)) × (r ≤ 64) ⌝ }
+pub fn end_line(out: &mut [u8; LINE], clocks: u32) -> usize
+    ensures { λ r. ⌜ Put (now (out .entry)) 0 (endLine clocks) r (now (out .exit)) × (r ≤ lineRoom) ⌝ }
 {
     let a = put_opening(out, b'E', clocks);
     put(out, a, b'\n')
 }
 
-pub fn refused_line(out: &mut [u8; 64], r: Refused) -> usize
-    ensures { λ len. ⌜ Put (now (out .entry)) 0 (refusedLine (told r)) len (now (out .exit)) × (len ≤ 64) ⌝ }
+pub fn refused_line(out: &mut [u8; LINE], r: Refused) -> usize
+    ensures { λ len. ⌜ Put (now (out .entry)) 0 (refusedLine (told r)) len (now (out .exit)) × (len ≤ lineRoom) ⌝ }
 {
     let why = r.why;
     let a = put_bytes(out, 0, b"refused ");

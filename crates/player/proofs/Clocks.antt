@@ -1,4 +1,4 @@
--- A field of an accepted score, its end too, meets a fresh chip after exactly as many ticks as its stamp says, and the panel counts them. Assumes nothing.
+-- A field of an accepted score meets a fresh chip after as many ticks as its stamp says, all counted. Assumes nothing.
 use Prim.Native.Nat.{ℕ, _+_, _-_, _≤_}
 use native.Mathlib.Omega.{arith}
 use mathlib.Core.Bool.{true}
@@ -95,9 +95,13 @@ on-stamp
     → p .clock ≡ o .last
     → atStamp f (played xs p) .clock ≡ stampOf f
 unfolding played
-on-stamp {o = o} (ends {o′ = o′} {f = g} e a i) [] f ys q p k = let h : g ≡ f = cc in subst (λ (x : Field). atStamp x p .clock ≡ stampOf x) h (ran-clock o g o′ a p k)
+on-stamp {o = o} (ends {o′ = o′} {f = g} e a i) [] f ys q p k =
+    let h : g ≡ f = cc in
+    subst (λ (x : Field). atStamp x p .clock ≡ stampOf x) h (ran-clock o g o′ a p k)
 on-stamp (ends e a i) (x ∷ xs) f ys q p k = absurd (omega (arith, ap length q, length-append xs (f ∷ ys)))
-on-stamp {o = o} (goes {o′ = o′} {f = g} e a i r) [] f ys q p k = let h : g ≡ f = cc in subst (λ (x : Field). atStamp x p .clock ≡ stampOf x) h (ran-clock o g o′ a p k)
+on-stamp {o = o} (goes {o′ = o′} {f = g} e a i r) [] f ys q p k =
+    let h : g ≡ f = cc in
+    subst (λ (x : Field). atStamp x p .clock ≡ stampOf x) h (ran-clock o g o′ a p k)
 on-stamp {o = o} (goes {o′ = o′} {f = g} {fs = gs} e a i r) (x ∷ xs) f ys q p k =
     let h : g ≡ x = cc in
     let there : atStamp x p .clock ≡ stampOf x = subst (λ (y : Field). atStamp y p .clock ≡ stampOf y) h (ran-clock o g o′ a p k) in

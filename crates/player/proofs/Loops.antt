@@ -1,5 +1,6 @@
--- What the loops over steps keep. Assumes nothing.
+-- The lines of the steps made and of those left are the whole: what the loops over steps keep. Assumes nothing.
 use Prim.Native.Nat.{ℕ, zero, suc, _+_, _-_, _≤_, _<_}
+use native.Mathlib.Nat.{zero-add, suc-add}
 use native.Mathlib.Omega.{arith}
 use mathlib.Core.Bool.{true}
 use mathlib.Core.List.{List, [], _++_, append-nil, append-assoc}
@@ -7,7 +8,7 @@ use mathlib.Core.Path.{_≡_, refl, ap, ap₂, sym, subst, _∙_}
 use lib.ListN.{length, take, drop, length-append}
 use lib.Seq.{sets, sets-eq, take-at, length-sets}
 use borrow.Author.Tests.{lt-ltb, le-ltb, le-leb}
-use Rattle.listing.specs.Text.{Put, copied}
+use Rattle.listing.specs.Text.{Put, copied, lineRoom}
 use Rattle.listing.proofs.Joins.{then}
 use Rattle.player.specs.declared.Listed.the-variants.{Written, NoRoom}
 use Rattle.player.specs.declared.Player.{Player}
@@ -16,7 +17,7 @@ use Rattle.player.specs.declared.Rest.the-variants.{Fields, Refusal, Not
 use Rattle.player.specs.declared.Stepped.{Stepped}
 use Rattle.player.specs.Into.{intoAnswer, intoBuffer}
 use Rattle.player.specs.Listing.{listing}
-use Rattle.player.specs.Steps.{startOf, isNothing, Turn, turn, Does, lines}
+use Rattle.player.specs.Steps.{startOf, isNothing, Turn, turn, Does, lines, after, mostSteps, Made}
 use Rattle.player.proofs.Played.{turn-nothing, enough-steps}
 
 is-nothing : (r : Rest) → isNothing r ≡ true → r ≡ Nothing
@@ -42,8 +43,40 @@ lines-more (suc n) s p h =
     let e : suc n - 1 ≡ n = omega arith in
     ap (λ (k : ℕ). turn s p .text ++ lines k s (turn s p .next)) (sym e)
 
-take-sets : (xs l : List ℕ) → length xs ≤ length l → take (length xs) (sets l 0 xs) ≡ xs
-take-sets xs l h = rw (sets-eq xs l 0 (omega arith)) (take-at xs (drop (0 + length xs) l) (length xs) refl)
+-- n steps, and k after them
+lines-join : (n k : ℕ) (s : List ℕ) (p : Player) → lines (n + k) s p ≡ lines n s p ++ lines k s (after n s p)
+unfolding lines after
+lines-join zero k s p = rw zero-add
+lines-join (suc n) k s p =
+    let q = turn s p .next in
+    rw (suc-add n k)
+    (ap (λ (x : List ℕ). turn s p .text ++ x) (lines-join n k s q) ∙ sym (append-assoc (turn s p .text) (lines n s q) (lines k s (after n s q))))
+
+after-join : (n k : ℕ) (s : List ℕ) (p : Player) → after (n + k) s p ≡ after k s (after n s p)
+unfolding after
+after-join zero k s p = rw zero-add
+after-join (suc n) k s p = rw (suc-add n k) (after-join n k s (turn s p .next))
+
+-- n steps, and one after them
+module _ (n : ℕ) (s : List ℕ) (p : Player) where
+  one-more : suc n ≡ n + 1
+  one-more = omega arith
+
+  lines-last : lines (suc n) s p ≡ lines n s p ++ turn s (after n s p) .text
+  unfolding lines
+  lines-last =
+      ap (λ (k : ℕ). lines k s p) one-more
+      ∙ (lines-join n 1 s p ∙ ap (λ (x : List ℕ). lines n s p ++ x) (append-nil (turn s (after n s p) .text)))
+
+  after-last : after (suc n) s p ≡ turn s (after n s p) .next
+  unfolding after
+  after-last = ap (λ (k : ℕ). after k s p) one-more ∙ after-join n 1 s p
+
+-- what was put at the start of a list that has room for it
+pub take-put : {l xs : List ℕ} {r : ℕ} {m : List ℕ} → Put l 0 xs r m → r ≤ length l → take r m ≡ xs
+take-put {l} {xs} {r} o h =
+    let q : r ≡ length xs = omega (arith, o .place) in
+    rw (o .bytes, q, sets-eq xs l 0 (omega arith)) (take-at xs (drop (0 + length xs) l) (length xs) refl)
 
 -- two permitted outcomes of a step are one
 pub does-one : {t : Turn} {l : List ℕ} {r r′ : Stepped} {m m′ : List ℕ} → Does t l r m → Does t l r′ m′ → (r ≡ r′) × (m ≡ m′)
@@ -51,18 +84,16 @@ does-one {t} {l} {r} {r′} d d′ =
     let e : r .len ≡ r′ .len = d .put .place ∙ sym (d′ .put .place) in
     (ap₂ (λ (x : Player) (y : ℕ). record { player = x; len = y }) (d .player ∙ sym (d′ .player)) e, d .put .bytes ∙ sym (d′ .put .bytes))
 
-module _ {t : Turn} {l : List ℕ} {r : Stepped} {m : List ℕ} (d : Does t l r m) (e : length l ≡ 64) where
+module _ {t : Turn} {l : List ℕ} {r : Stepped} {m : List ℕ} (d : Does t l r m) (e : length l ≡ lineRoom) where
   -- a step's text, in the line that was lent
-  pub line-is : take (r .len) m ≡ t .text
-  line-is =
-      let q : r .len ≡ length (t .text) = omega (arith, d .put .place) in
-      rw (d .put .bytes, q) (take-sets (t .text) l (omega (arith, d .fits, q)))
+  line-is : take (r .len) m ≡ t .text
+  line-is = take-put (d .put) (omega (arith, d .fits))
 
-  pub line-kept : length m ≡ 64
+  pub line-kept : length m ≡ lineRoom
   line-kept = ap length (d .put .bytes) ∙ (length-sets l 0 (t .text) ∙ e)
 
-pub len-first : (s : List ℕ) (p : Player) → p ≡ startOf s → length (lines 65537 s p) ≡ length (listing s)
-len-first s p e = ap (λ (q : Player). length (lines 65537 s q)) e ∙ ap length (enough-steps s .prints)
+pub len-first : (s : List ℕ) (p : Player) → p ≡ startOf s → length (lines mostSteps s p) ≡ length (listing s)
+len-first s p e = ap (λ (q : Player). length (lines mostSteps s q)) e ∙ ap length (enough-steps s)
 
 length-more : (n : ℕ) (s : List ℕ) (p : Player) → 0 < n → length (lines n s p) ≡ length (turn s p .text) + length (lines (n - 1) s (turn s p .next))
 length-more n s p h = ap length (lines-more n s p h) ∙ length-append (turn s p .text) (lines (n - 1) s (turn s p .next))
@@ -78,53 +109,57 @@ len-more left total s p l r m whole h d e =
     ap (λ (q : Player). length (lines (left - 1) s q)) (d .player) in
     omega (arith, length-more left s p h, b, d .put .place)
 
--- `whole` partly put into l, which now is m: `at` bytes so far, and the lines of the steps that are left
-pub record Reached (whole s l : List ℕ) (p : Player) (left at : ℕ) (m : List ℕ) : Type 0 where
-  pub so-far : List ℕ
-  pub put : Put l 0 so-far at m
-  pub rest : so-far ++ lines left s p ≡ whole
+-- before the first step
+pub made-none : (s : List ℕ) (p : Player) (steps : ℕ) (l : List ℕ) → Made s p steps l p steps 0 l
+unfolding lines after
+made-none s p steps l = record { made = zero; count = omega arith; player = refl; put = record { place = refl; bytes = refl } }
 
-pub reached-none : (s l : List ℕ) (p : Player) (left : ℕ) → Reached (lines left s p) s l p left 0 l
-reached-none s l p left = record { so-far = []; put = record { place = refl; bytes = refl }; rest = refl }
+module _ {s : List ℕ} {p : Player} {steps : ℕ} {l : List ℕ} {q : Player} {left at : ℕ} {m : List ℕ} (k : Made s p steps l q left at m) where
+  -- nothing is lost: the lines of the steps made, and of those that are left
+  pub made-whole : lines (k .made) s p ++ lines left s q ≡ lines steps s p
+  made-whole =
+      ap (λ (x : Player). lines (k .made) s p ++ lines left s x) (k .player)
+      ∙ (sym (lines-join (k .made) left s p) ∙ ap (λ (n : ℕ). lines n s p) (k .count))
 
-pub reached-first : (s l : List ℕ) (p : Player) → p ≡ startOf s → Reached (listing s) s l p 65537 0 l
-reached-first s l p e =
-    record {
-      so-far = [];
-      put = record { place = refl; bytes = refl };
-      rest = ap (λ (q : Player). lines 65537 s q) e ∙ enough-steps s .prints;
-    }
-
-module _ {whole s l : List ℕ} {p : Player} {left at : ℕ} {m : List ℕ} (k : Reached whole s l p left at m) where
-  -- room for the whole is room for the next line
-  pub reached-room : 0 < left → at + length (turn s p .text) ≤ length whole
-  reached-room h =
-      let b : length whole ≡ length (k .so-far) + length (lines left s p) =
-      sym (ap length (k .rest)) ∙ length-append (k .so-far) (lines left s p) in
-      omega (arith, length-more left s p h, b, k .put .place)
-
-  pub reached-more
+  pub made-more
       : {line : List ℕ} {r : Stepped} {line′ : List ℕ}
       → 0 < left
-      → length line ≡ 64
-      → Does (turn s p) line r line′
+      → length line ≡ lineRoom
+      → Does (turn s q) line r line′
       → at + r .len ≤ length m
-      → Reached whole s l (r .player) (left - 1) (at + r .len) (copied m at (take (r .len) line′))
-  reached-more {line} {r} {line′} h e d room =
-      let q : take (r .len) line′ ≡ turn s p .text = line-is d e in
-      let fits : at + length (turn s p .text) ≤ length m = omega (arith, d .put .place) in
-      let o : Put m at (turn s p .text) (at + r .len) (copied m at (turn s p .text)) =
-      record { place = omega (arith, d .put .place); bytes = simp (le-leb (at + length (turn s p .text)) (length m) fits) } in
+      → Made s p steps l (r .player) (left - 1) (at + r .len) (copied m at (take (r .len) line′))
+  made-more {line} {r} {line′} h e d room =
+      let fits : at + length (turn s q .text) ≤ length m = omega (arith, d .put .place) in
+      let o : Put m at (turn s q .text) (at + r .len) (copied m at (turn s q .text)) =
+      record { place = omega (arith, d .put .place); bytes = simp (le-leb (at + length (turn s q .text)) (length m) fits) } in
+      let last : lines (k .made) s p ++ turn s q .text ≡ lines (suc (k .made)) s p =
+      ap (λ (x : Player). lines (k .made) s p ++ turn s x .text) (k .player) ∙ sym (lines-last (k .made) s p) in
       record {
-        so-far = k .so-far ++ turn s p .text;
-        put = then (k .put) (rw q o);
-        rest = rw (append-assoc, d .player, ← (lines-more left s p h)) (k .rest);
+        made = suc (k .made);
+        count = omega (arith, k .count);
+        player = d .player ∙ (ap (λ (x : Player). turn s x .next) (k .player) ∙ sym (after-last (k .made) s p));
+        put = rw (← last, line-is d e) (then (k .put) o);
       }
 
-  pub reached-end : lines left s p ≡ [] → Put l 0 whole at m
-  reached-end e =
-      let q : k .so-far ≡ whole = sym (append-nil (k .so-far)) ∙ (ap (λ (x : List ℕ). k .so-far ++ x) (sym e) ∙ k .rest) in
-      subst (λ (x : List ℕ). Put l 0 x at m) q (k .put)
+-- from the start of a score, with as many steps as any score takes
+module _ {s l : List ℕ} {q : Player} {left at : ℕ} {m : List ℕ} (k : Made s (startOf s) mostSteps l q left at m) where
+  abbrev so-far : List ℕ
+  so-far = lines (k .made) s (startOf s)
+
+  listed-whole : so-far ++ lines left s q ≡ listing s
+  listed-whole = made-whole k ∙ enough-steps s
+
+  -- room for the listing is room for the next line
+  pub listed-room : 0 < left → at + length (turn s q .text) ≤ length (listing s)
+  listed-room h =
+      let b : length (listing s) ≡ length so-far + length (lines left s q) = sym (ap length listed-whole) ∙ length-append so-far (lines left s q) in
+      omega (arith, length-more left s q h, b, k .put .place)
+
+  -- no line is left: the listing is put
+  pub listed-all : lines left s q ≡ [] → Put l 0 (listing s) at m
+  listed-all e =
+      let whole : so-far ≡ listing s = sym (append-nil so-far) ∙ (ap (λ (x : List ℕ). so-far ++ x) (sym e) ∙ listed-whole) in
+      subst (λ (x : List ℕ). Put l 0 x at m) whole (k .put)
 
 module _ (s l : List ℕ) where
   pub no-room : length l < length (listing s) → (NoRoom ≡ intoAnswer s (length l)) × (l ≡ intoBuffer s l)

@@ -1,9 +1,11 @@
--- The lines of a player's steps, joined, are the score's listing, and leave the panel as the score does. Assumes nothing.
-use Prim.Native.Nat.{ℕ, zero, suc, _+_, _≤_}
+-- The lines of a player's steps, joined, are the score's listing, and leave the panel as it does. Assumes nothing.
+use Prim.Native.Nat.{ℕ, zero, suc, _+_, _*_, _≤_}
 use native.Mathlib.Omega.{arith}
 use mathlib.Core.List.{List, [], _++_, append-nil}
 use mathlib.Core.Path.{_≡_, refl, ap, sym, subst}
+use lib.Dec.{eqb, lit≤}
 use lib.ListN.{length}
+use Rattle.laws.proofs.Cond.{either}
 use Rattle.listing.specs.Text.{refusedLine}
 use Rattle.panel.specs.declared.Panel.{Panel}
 use Rattle.panel.specs.Panel.{fresh}
@@ -12,13 +14,15 @@ use Rattle.refusals.specs.Refusals.{told}
 use Rattle.score.specs.declared.Field.{Field}
 use Rattle.score.specs.declared.FieldRead.{FieldRead}
 use Rattle.score.specs.declared.Order.{Order}
-use Rattle.score.specs.Fields.{fieldAt}
+use Rattle.score.specs.Fields.{lenOf, fieldAt}
 use Rattle.score.specs.Scores.{Parsed, good, bad, scoreOf, answer, checked, Chain, ends, goes}
-use Rattle.score.proofs.Chains.{score-chain, chain-le}
+use Rattle.score.proofs.Chains.{score-chain}
+use Rattle.score.proofs.Fields.{stands}
+use Rattle.words.specs.Words.{numberAt}
 use Rattle.player.specs.declared.Player.{Player}
 use Rattle.player.specs.declared.Rest.the-variants.{Fields, Refusal, Nothing}
 use Rattle.player.specs.Listing.{play, played, listingOf, listing, panelOf}
-use Rattle.player.specs.Steps.{player, restBy, startOf, Turn, onField, onRefusal, onRead, turn, lines, after}
+use Rattle.player.specs.Steps.{player, restBy, startOf, Turn, onField, onRefusal, onRead, turn, lines, after, mostSteps}
 
 pub turn-nothing : (s : List ℕ) (p : Player) → p .rest ≡ Nothing → turn s p ≡ record { next = player (p .panel) Nothing; text = [] }
 unfolding turn
@@ -70,6 +74,19 @@ plays {s} (ends {at = at} {f = f} e a i) p (suc n) h = then {t = onField p f _} 
 plays (goes e a i r) p zero h = absurd (omega arith)
 plays {s} (goes {at = at} {f = f} e a i r) p (suc n) h = then {t = onField p f _} (turn-read s (player p (Fields at)) refl e) (rw i (plays r _ n (omega arith)))
 
+-- a known tag's length is four or more
+len-four : (tag : ℕ) → (lenOf tag ≡ 0 → ⊥) → 4 ≤ lenOf tag
+unfolding lenOf
+len-four tag =
+    let by = either (λ (n : ℕ). (n ≡ 0 → ⊥) → 4 ≤ n) in
+    by (eqb tag 0x01) 6 _ (λ _. lit≤ tt)
+    (by (eqb tag 0x02) 5 _ (λ _. lit≤ tt) (by (eqb tag 0x03) 4 _ (λ _. lit≤ tt) (by (eqb tag 0x7f) 4 0 (λ _. lit≤ tt) (λ k. absurd (k refl)))))
+
+-- each field takes seven bytes or more
+chain-sevens : {s : List ℕ} {at : ℕ} {o : Order} {fs : List Field} → Chain s at o fs → at + 7 * length fs ≤ length s
+chain-sevens {s} {at} (ends e a i) = let st = stands s at e in omega (arith, len-four (numberAt 1 s at) (st .known))
+chain-sevens {s} {at} (goes e a i r) = let st = stands s at e in omega (arith, len-four (numberAt 1 s at) (st .known), chain-sevens r)
+
 module _ (s : List ℕ) where
   from
       : (p : Parsed)
@@ -84,12 +101,10 @@ module _ (s : List ℕ) where
       subst (λ (x : List ℕ). Plays (suc n) s (player fresh (Refusal r)) x fresh) (append-nil (refusedLine (told r)))
       (then (turn-refusal s (player fresh (Refusal r)) refl) (rests n s fresh))
 
-  -- with as many steps as the score has bytes and one, or more
-  pub steps-play : (n : ℕ) → length s + 1 ≤ n → Plays n s (startOf s) (listing s) (panelOf (scoreOf s))
+  -- as many steps as `mostSteps` do, or more
+  pub steps-play : (n : ℕ) → mostSteps ≤ n → Plays n s (startOf s) (listing s) (panelOf (scoreOf s))
   unfolding startOf checked listing
-  steps-play n h = from (scoreOf s) refl n (λ fs e. omega (arith, chain-le (score-chain s e .0))) (omega arith)
+  steps-play n h = from (scoreOf s) refl n (λ fs e. omega (arith, chain-sevens (score-chain s e .0), score-chain s e .1)) (omega arith)
 
-  -- 65,537 steps do for any score, since a longer one is refused in one
-  pub enough-steps : Plays 65537 s (startOf s) (listing s) (panelOf (scoreOf s))
-  unfolding startOf checked listing
-  enough-steps = from (scoreOf s) refl 65537 (λ fs e. omega (arith, chain-le (score-chain s e .0), score-chain s e .1)) (omega arith)
+  pub enough-steps : lines mostSteps s (startOf s) ≡ listing s
+  enough-steps = steps-play mostSteps (omega arith) .prints

@@ -11,7 +11,7 @@ use Rattle.score.specs.declared.Field.the-variants.{Write, Read, Levels, End}
 use Rattle.score.specs.Fields.{stampOf}
 use Rattle.score.specs.Scores.{Parsed, good, bad, scoreOf}
 
--- 'Lines: R stamp address read, L stamp code level …, and E clocks': what a field prints, the panel having run to its stamp
+-- 'Lines: R stamp address read, L stamp code level …, and E clocks': what a field prints of the panel at its stamp
 unfoldable pub lineOf : Field → Panel → List ℕ
 lineOf (Write t a v) p = []
 lineOf (Read t a) p = readLine t a (readOf p a .byte)
@@ -29,7 +29,8 @@ doneBy (End t) p = p
 abbrev pub atStamp : Field → Panel → Panel
 atStamp f p = ranTo (stampOf f) p
 
--- 'several fields may share a stamp and run in file order', 'Fields stamped as the end do run': the lines of fields, from a panel on
+-- 'several fields may share a stamp and run in file order', 'Fields stamped as the end do run': the lines that fields
+-- print, from a panel on
 unfoldable pub play : List Field → Panel → List ℕ
 play [] p = []
 play (f ∷ fs) p = lineOf f (atStamp f p) ++ play fs (doneBy f (atStamp f p))

@@ -1,9 +1,9 @@
 -- A player's steps over a score, one field each.
-use Prim.Native.Nat.{ℕ, zero, suc, _≤_}
+use Prim.Native.Nat.{ℕ, zero, suc, _+_, _≤_}
 use mathlib.Core.Bool.{Bool, true, false, cond}
 use mathlib.Core.List.{List, [], _++_}
 use mathlib.Core.Path.{_≡_}
-use Rattle.listing.specs.Text.{Put, refusedLine}
+use Rattle.listing.specs.Text.{Put, lineRoom, refusedLine}
 use Rattle.panel.specs.declared.Panel.{Panel}
 use Rattle.panel.specs.Panel.{fresh}
 use Rattle.refusals.specs.declared.Refused.{Refused as Refusing}
@@ -67,7 +67,7 @@ turn s p = turnBy s (p .panel) (p .rest)
 pub record Does (t : Turn) (l : List ℕ) (r : Stepped) (m : List ℕ) : Type 0 where
   pub player : r .player ≡ t .next
   pub put : Put l 0 (t .text) (r .len) m
-  pub fits : r .len ≤ 64
+  pub fits : r .len ≤ lineRoom
 
 -- the lines of n steps, joined
 unfoldable pub lines : ℕ → List ℕ → Player → List ℕ
@@ -78,3 +78,15 @@ lines (suc n) s p = turn s p .text ++ lines n s (turn s p .next)
 unfoldable pub after : ℕ → List ℕ → Player → Player
 after zero s p = p
 after (suc n) s p = after n s (turn s p .next)
+
+-- as many steps as any score takes: a field has seven bytes or more, and a score over 65,536 bytes is refused in one
+abbrev pub mostSteps : ℕ
+mostSteps = 9362
+
+-- some of `steps` steps from p were made: q is the player after them, `left` are left, and their lines, `at` bytes,
+-- stand at the start of l, which now is m
+pub record Made (s : List ℕ) (p : Player) (steps : ℕ) (l : List ℕ) (q : Player) (left at : ℕ) (m : List ℕ) : Type 0 where
+  pub made : ℕ
+  pub count : made + left ≡ steps
+  pub player : q ≡ after made s p
+  pub put : Put l 0 (lines made s p) at m

@@ -1,4 +1,5 @@
 // The player of scores (document 01, 'Score and program'): one field a step, and the whole listing in a lent buffer.
+use listing::LINE;
 use panel::Panel;
 use refusals::Refused;
 use score::Checked;
@@ -42,7 +43,7 @@ pub struct Stepped {
     pub len: usize,
 }
 
-fn refuse(panel: Panel, r: Refused, line: &mut [u8; 64]) -> Stepped
+fn refuse(panel: Panel, r: Refused, line: &mut [u8; LINE]) -> Stepped
     ensures { λ s. ⌜ Does (onRefusal panel r) (now (line .entry)) s (now (line .exit)) ⌝ }
 {
     let len = listing::refused_line(line, r);
@@ -51,7 +52,7 @@ fn refuse(panel: Panel, r: Refused, line: &mut [u8; 64]) -> Stepped
     Stepped { player, len }
 }
 
-fn play_field(panel: Panel, f: Field, next: usize, line: &mut [u8; 64]) -> Stepped
+fn play_field(panel: Panel, f: Field, next: usize, line: &mut [u8; LINE]) -> Stepped
     ensures { λ r. ⌜ Does (onField panel f next) (now (line .entry)) r (now (line .exit)) ⌝ }
 {
     let there = panel.run_to(f.stamp());
@@ -111,7 +112,7 @@ impl Player {
         }
     }
 
-    pub fn step(self, s: &[u8], line: &mut [u8; 64]) -> Stepped
+    pub fn step(self, s: &[u8], line: &mut [u8; LINE]) -> Stepped
         ensures { λ r. ⌜ Does (turn (now (s .entry)) self) (now (line .entry)) r (now (line .exit)) ⌝ }
     {
         let panel = self.panel;
@@ -138,14 +139,14 @@ impl Player {
     }
 }
 
-// A score has fewer fields than bytes, and one of more than 65,536 bytes is refused in one step.
-const STEPS: u32 = 65537;
+// As many steps as any score takes (`mostSteps`).
+pub const STEPS: u32 = 9362;
 
 pub fn listing_len(s: &[u8]) -> usize
     ensures { λ r. ⌜ r ≡ length (Listing·listing (now (s .entry))) ⌝ }
 {
     let mut p = Player::start(s);
-    let mut line = [0u8; 64];
+    let mut line = [0u8; LINE];
     let mut total: usize = 0;
     let mut left: u32 = STEPS;
     while 0 < left {
@@ -166,7 +167,7 @@ fn write_listing(s: &[u8], out: &mut [u8]) -> usize
     ensures { λ r. ⌜ Put (now (out .entry)) 0 (Listing·listing (now (s .entry))) r (now (out .exit)) ⌝ }
 {
     let mut p = Player::start(s);
-    let mut line = [0u8; 64];
+    let mut line = [0u8; LINE];
     let mut at: usize = 0;
     let mut left: u32 = STEPS;
     while 0 < left {

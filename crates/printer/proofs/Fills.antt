@@ -1,14 +1,80 @@
--- What the loop of `fill` keeps is what it promises. Assumes nothing.
-use Prim.Native.Nat.{ℕ, _≤_}
-use mathlib.Core.List.{List}
-use Rattle.player.proofs.Loops.{Reached}
+-- Fills from the start of a score, joined, are its listing, and no fill stands still. Assumes nothing.
+use Prim.Native.Nat.{ℕ, zero, suc, _+_, _≤_, _<_}
+use native.Mathlib.Omega.{arith}
+use mathlib.Core.Bool.{true, false}
+use mathlib.Core.List.{List, [], _++_, append-nil, append-assoc}
+use mathlib.Core.Logic.{_⊎_, ⊎-elim}
+use mathlib.Core.Path.{_≡_, refl, ap, sym, _∙_}
+use lib.ListN.{length, take, length-append}
+use Rattle.listing.specs.Text.{Put, lineRoom}
+use Rattle.player.proofs.Loops.{lines-over, lines-none, take-put, made-whole}
+use Rattle.player.proofs.Played.{enough-steps}
 use Rattle.player.specs.declared.Player.{Player}
-use Rattle.player.specs.Steps.{lines}
-use Rattle.printer.specs.Fills.{Fills}
+use Rattle.player.specs.Listing.{listing}
+use Rattle.player.specs.Steps.{startOf, isNothing, lines, after, mostSteps, Made}
+use Rattle.printer.specs.declared.Filled.{Filled}
+use Rattle.printer.specs.Fills.{Fills, Filling, none, more}
 
-pub fills
-    : {s l : List ℕ} {p q : Player} {steps left at : ℕ} {m : List ℕ}
-    → Reached (lines steps s p) s l q left at m
-    → at ≤ 65536
-    → Fills s p steps l (record { player = q; left = left; len = at }) m
-fills k h = record { so-far = k .so-far; put = k .put; fits = h; rest = k .rest }
+module _ {s : List ℕ} {p : Player} {steps : ℕ} {l : List ℕ} {r : Filled} {m : List ℕ} (f : Fills s p steps l r m) where
+  -- the bytes handed on, and the lines of the steps that are left
+  fill-whole : take (r .len) m ++ lines (r .left) s (r .player) ≡ lines steps s p
+  fill-whole =
+      ap (λ (x : List ℕ). x ++ lines (r .left) s (r .player)) (take-put (f .makes .put) (f .fits)) ∙ made-whole (f .makes)
+
+  -- no step made: the player as it was, and nothing put
+  still : (n : ℕ) → n ≡ 0 → r .player ≡ after n s p → Put l 0 (lines n s p) (r .len) m → (r .player ≡ p) × (r .len ≡ 0)
+  unfolding lines after
+  still zero z e o = (e, omega (arith, o .place))
+  still (suc n) z e o = absurd (omega arith)
+
+  -- with a line's room, a player that has something left to do makes a step
+  pub fill-steps : lineRoom ≤ length l → 0 < steps → isNothing (p .rest) ≡ false → r .left < steps
+  fill-steps h k e = go (f .makes .made) refl
+    where
+      go : (n : ℕ) → f .makes .made ≡ n → r .left < steps
+      go zero z =
+          let q = still (f .makes .made) z (f .makes .player) (f .makes .put) in
+          ⊎-elim (λ x. let w : _≡_ {A = ℕ} 0 1 = cc in absurd (omega arith)) (λ x. ⊎-elim (λ y. omega arith) (λ y. absurd (omega (arith, q .1))) x) (f .stops)
+      go (suc n) z = omega (arith, f .makes .count)
+
+-- what was handed on, and the lines of the steps that are left
+filling-whole : {s : List ℕ} {p : Player} {left : ℕ} {text : List ℕ} → Filling s p left text → text ++ lines left s p ≡ listing s
+filling-whole {s} none = enough-steps s
+filling-whole {s} (more {p = p} {left = left} {text = text} {r = r} {m = m} g f) =
+    append-assoc text (take (r .len) m) (lines (r .left) s (r .player))
+    ∙ (ap (λ (x : List ℕ). text ++ x) (fill-whole f) ∙ filling-whole g)
+
+module _ {s : List ℕ} {p : Player} {left : ℕ} {text : List ℕ} (g : Filling s p left text) where
+  -- until nothing is left to do, or no step is left
+  pub fills-listing : (isNothing (p .rest) ≡ true) ⊎ (left ≡ 0) → text ≡ listing s
+  fills-listing over =
+      let e : lines left s p ≡ [] = ⊎-elim (lines-over left s p) (lines-none left s p) over in
+      sym (append-nil text) ∙ (ap (λ (x : List ℕ). text ++ x) (sym e) ∙ filling-whole g)
+
+  pub fills-within : length text ≤ length (listing s)
+  fills-within = omega (arith, sym (length-append text (lines left s p)) ∙ ap length (filling-whole g))
+
+-- what the loop of `print_listing` keeps: the bytes handed on are counted
+pub record Handed (s : List ℕ) (p : Player) (left len : ℕ) : Type 0 where
+  pub text : List ℕ
+  pub filling : Filling s p left text
+  pub counts : len ≡ length text
+
+pub handed-none : (s : List ℕ) → Handed s (startOf s) mostSteps 0
+handed-none s = record { text = []; filling = none; counts = refl }
+
+module _ {s : List ℕ} {p : Player} {left len : ℕ} (k : Handed s p left len) where
+  pub handed-more : {l : List ℕ} {r : Filled} {m : List ℕ} → Fills s p left l r m → Handed s (r .player) (r .left) (len + r .len)
+  handed-more {l} {r} {m} f =
+      let put : length (take (r .len) m) ≡ r .len = ap length (take-put (f .makes .put) (f .fits)) ∙ omega (arith, f .makes .put .place) in
+      record {
+        text = k .text ++ take (r .len) m;
+        filling = more (k .filling) f;
+        counts = omega (arith, k .counts, length-append (k .text) (take (r .len) m), put);
+      }
+
+  pub handed-all : (isNothing (p .rest) ≡ true) ⊎ (left ≡ 0) → len ≡ length (listing s)
+  handed-all over = k .counts ∙ ap length (fills-listing (k .filling) over)
+
+  pub handed-within : len ≤ length (listing s)
+  handed-within = omega (arith, k .counts, fills-within (k .filling))

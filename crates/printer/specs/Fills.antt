@@ -1,15 +1,40 @@
--- A part of a listing in a buffer.
-use Prim.Native.Nat.{ℕ, _≤_}
-use mathlib.Core.List.{List, _++_}
+-- A score's listing in parts, each filled into one buffer and handed on: document 01, 'Score and program'.
+use Prim.Native.Nat.{ℕ, _+_, _≤_, _<_}
+use mathlib.Core.Bool.{true}
+use mathlib.Core.List.{List, [], _++_}
+use mathlib.Core.Logic.{_⊎_}
 use mathlib.Core.Path.{_≡_}
-use Rattle.listing.specs.Text.{Put}
+use lib.ListN.{length, take}
+use Rattle.listing.specs.Text.{lineRoom}
 use Rattle.player.specs.declared.Player.{Player}
-use Rattle.player.specs.Steps.{lines}
+use Rattle.player.specs.Listing.{listing}
+use Rattle.player.specs.Steps.{startOf, isNothing, mostSteps, Made}
 use Rattle.printer.specs.declared.Filled.{Filled}
+use Rattle.printer.specs.declared.Printed.{Printed}
+use Rattle.printer.specs.declared.Printed.the-variants.{Whole, Stopped}
 
--- nothing is lost: what was put into l, which then is m, and the lines of the steps that are left, are the lines of the steps asked for
+-- the room of the buffer
+abbrev pub room : ℕ
+room = 65536
+
+-- some of the steps asked for, their lines at the start of l, which then is m: it stops only where nothing is left to
+-- do, no step is left, or less room than a line is given
 pub record Fills (s : List ℕ) (p : Player) (steps : ℕ) (l : List ℕ) (r : Filled) (m : List ℕ) : Type 0 where
-  pub so-far : List ℕ
-  pub put : Put l 0 so-far (r .len) m
-  pub fits : r .len ≤ 65536
-  pub rest : so-far ++ lines (r .left) s (r .player) ≡ lines steps s p
+  pub makes : Made s p steps l (r .player) (r .left) (r .len) m
+  pub fits : r .len ≤ length l
+  pub stops : (isNothing (r .player .rest) ≡ true) ⊎ ((r .left ≡ 0) ⊎ (length l < r .len + lineRoom))
+
+-- fills one after the other from the start of a score, each from where the one before stopped: p is the player there,
+-- `left` steps are left, and `text` is what they put, joined
+pub data Filling (s : List ℕ) : Player → ℕ → List ℕ → Type 0 where
+  none : Filling s (startOf s) mostSteps []
+  more
+      : {p : Player} {left : ℕ} {text l : List ℕ} {r : Filled} {m : List ℕ}
+      → Filling s p left text
+      → Fills s p left l r m
+      → Filling s (r .player) (r .left) (text ++ take (r .len) m)
+
+-- the number of bytes handed on: all of the listing's, or no more than it has where a write failed
+abbrev pub Prints : List ℕ → Printed → Type 0
+Prints s (Whole len) = len ≡ length (listing s)
+Prints s (Stopped len) = len ≤ length (listing s)

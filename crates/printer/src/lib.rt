@@ -1,9 +1,7 @@
 // Prints a score's listing through a buffer.
+use listing::LINE;
 use player::Player;
-ghost use mathlib.Core.Path.{_≡_};
-ghost use Prim.Native.Nat.{_≤_};
-ghost use lib.ListN.{length};
-ghost use Rattle.printer.specs.Fills.{Fills};
+ghost use Rattle.printer.specs.Fills.{Fills, Prints};
 
 // How far a buffer was filled: the player there, the steps left, and the bytes.
 struct Filled {
@@ -12,13 +10,12 @@ struct Filled {
     len: usize,
 }
 
-// Whole lines at the start of a buffer, until nothing is left to do, or a line's room is not left.
+// Whole lines at the start of a buffer, until nothing is left to do, no step is left, or a line's room is not left.
 fn fill(from: Player, s: &[u8], steps: u32, out: &mut [u8]) -> Filled
-    requires { ⌜ 65536 ≤ length (now out) ⌝ }
     ensures { λ r. ⌜ Fills (now (s .entry)) from steps (now (out .entry)) r (now (out .exit)) ⌝ }
 {
     let mut p = from;
-    let mut line = [0u8; 64];
+    let mut line = [0u8; LINE];
     let mut at: usize = 0;
     let mut left: u32 = steps;
     while 0 < left {
@@ -30,7 +27,8 @@ fn fill(from: Player, s: &[u8], steps: u32, out: &mut [u8]) -> Filled
                 len: at,
             };
         }
-        if 65472 < at {
+        let room = out.len() - at;
+        if room < LINE {
             return Filled {
                 player: p,
                 left,
@@ -51,27 +49,35 @@ fn fill(from: Player, s: &[u8], steps: u32, out: &mut [u8]) -> Filled
     }
 }
 
-// 65,537 steps play any score (law `enough-steps` of crate player); a write that fails ends the listing.
-pub fn print_listing(to: i32, s: &[u8])
-    ensures { λ r. ⌜ r ≡ tt ⌝ }
+// The bytes handed on: all of a listing, or those before the part whose write failed.
+pub enum Printed {
+    Whole { len: usize },
+    Stopped { len: usize },
+}
+
+const ROOM: usize = 65536;
+
+// A write that fails ends the listing.
+pub fn print_listing(to: i32, s: &[u8]) -> Printed
+    ensures { λ r. ⌜ Prints (now (s .entry)) r ⌝ }
 {
-    let mut out = [0u8; 65536];
+    let mut out = [0u8; ROOM];
     let mut p = Player::start(s);
-    let mut left: u32 = 65537;
-    let mut turns: u32 = 65537;
-    while 0 < turns {
-        let f = fill(p, s, left, &mut out);
-        let len = f.len;
-        let written = io::write_all(to, &out[..len]);
-        p = f.player;
-        left = f.left;
-        turns = turns - 1;
+    let mut left: u32 = player::STEPS;
+    let mut done: usize = 0;
+    while 0 < left {
         let rest = p.rest;
         if rest.is_nothing() {
-            return;
+            return Printed::Whole { len: done };
         }
-        if !written {
-            return;
+        let part = fill(p, s, left, &mut out);
+        let len = part.len;
+        if !io::write_all(to, &out[..len]) {
+            return Printed::Stopped { len: done };
         }
+        done = done + len;
+        p = part.player;
+        left = part.left;
     }
+    Printed::Whole { len: done }
 }

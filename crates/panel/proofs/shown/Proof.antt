@@ -1,3 +1,4 @@
+-- `shown` gives the code and the level that the chip tells of the voice named.
 use borrow.Author.Needs.{needs}
 use mathlib.Core.Path.{ap, ap₂, _∙_}
 use Rattle.panel.specs.Panel.{codeTold, levelTold, shownTold}
@@ -18,7 +19,10 @@ level-told-requires c κs = search needs
 
 returns : tie.Need-returns
 unfolding shownTold
-returns c = ap₂ (λ x y. record { code = x; level = y }) (c .before .before .code-told .ensures ∙ ap codeTold (c .before .before .before .code .ensures)) (c .level-told .ensures ∙ ap levelTold (c .before .level .ensures))
+returns c =
+    let code = c .before .before .code-told .ensures ∙ ap codeTold (c .before .before .before .code .ensures) in
+    let level = c .level-told .ensures ∙ ap levelTold (c .before .level .ensures) in
+    ap₂ (λ x y. record { code = x; level = y }) code level
 
 pub shown-spec : {M : Type 1} → statement M
 shown-spec =

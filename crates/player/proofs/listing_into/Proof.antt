@@ -1,3 +1,4 @@
+-- `listing_into` puts the listing at the start of the buffer, and leaves it as it was where the listing is longer.
 use borrow.Author.Needs.{needs}
 use native.Mathlib.Omega.{arith}
 use Rattle.player.proofs.Loops.{no-room, room}

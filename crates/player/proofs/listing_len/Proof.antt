@@ -1,16 +1,19 @@
+-- `listing_len` sums the lengths of all lines: its answer is the length of the listing.
 use borrow.Author.Needs.{needs}
 use native.Mathlib.Omega.{arith}
 use Prim.Native.Nat.{_*_, _+_, _≤_}
 use mathlib.Core.Path.{_∙_, _≡_, ap, sym}
 use lib.ListN.{length}
+use Rattle.listing.specs.Text.{lineRoom}
 use Rattle.player.proofs.Loops.{lines-over, lines-none, len-first, len-more}
 use Rattle.player.specs.Listing.{listing}
-use Rattle.player.specs.Steps.{lines}
+use Rattle.player.specs.Steps.{lines, mostSteps}
 use Rattle.player.proofs.listing_len.Statement.{statement}
 use Rattle.player.proofs.listing_len.Tie as tie
 
 abbrev Inv-loop : tie.InvT-loop
-Inv-loop s p₀ line₀ total₀ left₀ p line total left = (left ≤ 65537) × (total + 64 * left ≤ 4194368) × (total + length (lines left s p) ≡ length (listing s))
+Inv-loop s p₀ line₀ total₀ left₀ p line total left =
+    (total + lineRoom * left ≤ lineRoom * mostSteps) × (total + length (lines left s p) ≡ length (listing s))
 
 abbrev μ-loop : tie.MeasureT-loop
 μ-loop s p₀ line₀ total₀ left₀ p line total left = left
@@ -19,7 +22,7 @@ start-requires : tie.Need-start-requires Inv-loop μ-loop
 start-requires c κs = search needs
 
 loop-holds : tie.Need-loop-holds Inv-loop μ-loop
-loop-holds c = (omega arith, omega arith, omega (arith, len-first (c .before .before .args .s .now) (c .start .result) (c .start .ensures)))
+loop-holds c = (omega arith, omega (arith, len-first (c .before .before .args .s .now) (c .start .result) (c .start .ensures)))
 
 is-nothing-requires : tie.Need-is-nothing-requires Inv-loop μ-loop
 is-nothing-requires c κs = search needs
@@ -27,13 +30,17 @@ is-nothing-requires c κs = search needs
 returns : tie.Need-returns Inv-loop μ-loop
 returns c =
     let l = c .before .before .before .loop in
-    omega (arith, l .inv .2, ap length (lines-over (l .left) (c .before .before .before .before .before .before .args .s .now) (l .p) (sym (c .before .is-nothing .ensures) ∙ c .if1 .taken)))
+    let e = sym (c .before .is-nothing .ensures) ∙ c .if1 .taken in
+    let over = lines-over (l .left) (c .before .before .before .before .before .before .args .s .now) (l .p) e in
+    omega (arith, l .inv .1, ap length over)
 
 step-requires : tie.Need-step-requires Inv-loop μ-loop
 step-requires c κs = search needs
 
 add-total : tie.Need-add-total Inv-loop μ-loop
-add-total c = omega (arith, c .before .step .ensures .fits, c .before .before .before .before .before .before .loop .inv .1)
+add-total c =
+    let turn = c .before .before .before .before .before in
+    omega (arith, c .before .step .ensures .fits, turn .before .loop .inv .0, turn .loop-test .taken)
 
 sub-left : tie.Need-sub-left Inv-loop μ-loop
 sub-left c = omega (arith, c .before .before .before .before .before .before .loop-test .taken)
@@ -43,13 +50,19 @@ loop-less c = omega (arith, c .before .before .before .before .before .before .l
 
 loop-again : tie.Need-loop-again Inv-loop μ-loop
 loop-again c =
-    let l = c .before .before .before .before .before .before .before .loop in
-    (omega (arith, l .inv .0), omega (arith, c .before .before .step .ensures .fits, l .inv .1, c .before .before .before .before .before .before .loop-test .taken), len-more (l .left) (l .total) (c .before .before .before .before .before .before .before .before .before .before .args .s .now) (l .p) _ _ _ _ (c .before .before .before .before .before .before .loop-test .taken) (c .before .before .step .ensures) (l .inv .2))
+    let turn = c .before .before .before .before .before .before in
+    let l = turn .before .loop in
+    let does = c .before .before .step .ensures in
+    let s = turn .before .before .before .before .args .s .now in (
+      omega (arith, does .fits, l .inv .0, turn .loop-test .taken),
+      len-more (l .left) (l .total) s (l .p) _ _ _ _ (turn .loop-test .taken) does (l .inv .1),
+    )
 
 returns-2 : tie.Need-returns-2 Inv-loop μ-loop
 returns-2 c =
     let l = c .before .loop in
-    omega (arith, l .inv .2, ap length (lines-none (l .left) (c .before .before .before .before .args .s .now) (l .p) (omega arith)))
+    let none = lines-none (l .left) (c .before .before .before .before .args .s .now) (l .p) (omega arith) in
+    omega (arith, l .inv .1, ap length none)
 
 pub listing-len-spec : {M : Type 1} → statement M
 listing-len-spec =

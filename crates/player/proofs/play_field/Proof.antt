@@ -1,3 +1,4 @@
+-- `play_field` runs the panel to the field's stamp, does what the field says, and puts its line, if it has one.
 use borrow.Author.Needs.{needs}
 use Prim.Native.Nat.{ℕ}
 use mathlib.Core.Path.{_∙_, _≡_, ap, refl}
@@ -23,8 +24,10 @@ write-requires c κs = search needs
 returns : tie.Need-returns
 unfolding onField lineOf doneBy
 returns c =
-    let a = c .before .before .before .before .before .before .args in
-    let e : c .before .before .before .before .run-to .result ≡ atStamp (a .f) (a .panel) = c .before .before .before .before .run-to .ensures ∙ ap (λ (n : ℕ). ranTo n (a .panel)) (c .before .before .before .before .before .stamp .ensures) in
+    let ran = c .before .before .before .before in
+    let a = ran .before .before .args in
+    let stamp = ap (λ (n : ℕ). ranTo n (a .panel)) (ran .before .stamp .ensures) in
+    let e : ran .run-to .result ≡ atStamp (a .f) (a .panel) = ran .run-to .ensures ∙ stamp in
     rw (← e, c .before .before .f .given .1)
     (record { player = simp (c .write .ensures); put = record { place = refl; bytes = refl }; fits = lit≤ tt })
 
@@ -40,10 +43,13 @@ read-line-requires c κs = search needs
 returns-2 : tie.Need-returns-2
 unfolding onField lineOf doneBy
 returns-2 c =
-    let a = c .before .before .before .before .before .before .before .before .before .args in
-    let e : c .before .before .before .before .before .before .before .run-to .result ≡ atStamp (a .f) (a .panel) = c .before .before .before .before .before .before .before .run-to .ensures ∙ ap (λ (n : ℕ). ranTo n (a .panel)) (c .before .before .before .before .before .before .before .before .stamp .ensures) in
-    rw (← e, c .before .before .before .before .before .f2 .given .1)
-    (record { player = simp (c .before .before .before .read .ensures); put = rw (← (c .before .before .before .read .ensures)) (c .before .read-line .ensures .0); fits = c .before .read-line .ensures .1 })
+    let ran = c .before .before .before .before .before .before .before in
+    let a = ran .before .before .args in
+    let stamp = ap (λ (n : ℕ). ranTo n (a .panel)) (ran .before .stamp .ensures) in
+    let e : ran .run-to .result ≡ atStamp (a .f) (a .panel) = ran .run-to .ensures ∙ stamp in
+    let read = c .before .before .before .read .ensures in
+    let line = c .before .read-line .ensures in
+    rw (← e, c .before .before .before .before .before .f2 .given .1) (record { player = simp read; put = rw (← read) (line .0); fits = line .1 })
 
 enum-known-f-3 : tie.Need-enum-known-f-3
 enum-known-f-3 c = search needs
@@ -57,10 +63,13 @@ levels-line-requires c κs = search needs
 returns-3 : tie.Need-returns-3
 unfolding onField lineOf doneBy
 returns-3 c =
-    let a = c .before .before .before .before .before .before .before .before .before .before .before .args in
-    let e : c .before .before .before .before .before .before .before .before .before .run-to .result ≡ atStamp (a .f) (a .panel) = c .before .before .before .before .before .before .before .before .before .run-to .ensures ∙ ap (λ (n : ℕ). ranTo n (a .panel)) (c .before .before .before .before .before .before .before .before .before .before .stamp .ensures) in
+    let ran = c .before .before .before .before .before .before .before .before .before in
+    let a = ran .before .before .args in
+    let stamp = ap (λ (n : ℕ). ranTo n (a .panel)) (ran .before .stamp .ensures) in
+    let e : ran .run-to .result ≡ atStamp (a .f) (a .panel) = ran .run-to .ensures ∙ stamp in
+    let line = c .levels-line .ensures in
     rw (← e, c .before .before .before .before .before .before .before .f3 .given .1)
-    (record { player = refl; put = rw (← (c .before .before .before .before .before .levels .ensures)) (c .levels-line .ensures .0); fits = c .levels-line .ensures .1 })
+    (record { player = refl; put = rw (← (c .before .before .before .before .before .levels .ensures)) (line .0); fits = line .1 })
 
 enum-told : tie.Need-enum-told
 enum-told c = search needs
@@ -71,10 +80,12 @@ end-line-requires c κs = search needs
 returns-4 : tie.Need-returns-4
 unfolding onField lineOf doneBy
 returns-4 c =
-    let a = c .before .before .before .before .before .before .args in
-    let e : c .before .before .before .before .run-to .result ≡ atStamp (a .f) (a .panel) = c .before .before .before .before .run-to .ensures ∙ ap (λ (n : ℕ). ranTo n (a .panel)) (c .before .before .before .before .before .stamp .ensures) in
-    rw (← e, c .before .before .enum-told .given .1)
-    (record { player = refl; put = c .end-line .ensures .0; fits = c .end-line .ensures .1 })
+    let ran = c .before .before .before .before in
+    let a = ran .before .before .args in
+    let stamp = ap (λ (n : ℕ). ranTo n (a .panel)) (ran .before .stamp .ensures) in
+    let e : ran .run-to .result ≡ atStamp (a .f) (a .panel) = ran .run-to .ensures ∙ stamp in
+    let line = c .end-line .ensures in
+    rw (← e, c .before .before .enum-told .given .1) (record { player = refl; put = line .0; fits = line .1 })
 
 pub play-field-spec : {M : Type 1} → statement M
 play-field-spec =

@@ -1,22 +1,34 @@
+-- `print_listing` hands on all bytes of the listing, and counts them, unless a write fails.
 use borrow.Author.Needs.{needs}
 use native.Mathlib.Omega.{arith}
-use mathlib.Core.Path.{_≡_, refl, sym}
+use Prim.Native.Nat.{_+_, _*_, _≤_}
+use mathlib.Core.Logic.{inl, inr}
+use mathlib.Core.Path.{_≡_, refl, sym, _∙_}
 use lib.ListN.{length}
 use lib.Seq.{length-take-le}
+use Rattle.player.specs.Steps.{mostSteps}
+use Rattle.printer.specs.Fills.{room}
+use Rattle.printer.proofs.Fills.{fill-steps, Handed, handed-none, handed-more, handed-all, handed-within}
 use Rattle.printer.proofs.print_listing.Statement.{statement}
 use Rattle.printer.proofs.print_listing.Tie as tie
 
 abbrev Inv-loop : tie.InvT-loop
-Inv-loop to s out₀ p₀ left₀ turns₀ out p left turns = length out ≡ 65536
+Inv-loop to s out₀ p₀ left₀ done₀ out p left done = (length out ≡ room) × (done + room * left ≤ room * mostSteps) × Handed s p left done
 
 abbrev μ-loop : tie.MeasureT-loop
-μ-loop to s out₀ p₀ left₀ turns₀ out p left turns = turns
+μ-loop to s out₀ p₀ left₀ done₀ out p left done = left
 
 start-requires : tie.Need-start-requires Inv-loop μ-loop
 start-requires c κs = search needs
 
 loop-holds : tie.Need-loop-holds Inv-loop μ-loop
-loop-holds c = refl
+loop-holds c = (refl, omega arith, rw (c .start .ensures) (handed-none _))
+
+is-nothing-requires : tie.Need-is-nothing-requires Inv-loop μ-loop
+is-nothing-requires c κs = search needs
+
+returns : tie.Need-returns Inv-loop μ-loop
+returns c = handed-all (c .before .before .before .loop .inv .2) (inl (sym (c .before .is-nothing .ensures) ∙ c .if1 .taken))
 
 slice-aggregate-fill : tie.Need-slice-aggregate-fill Inv-loop μ-loop
 slice-aggregate-fill c = search needs
@@ -28,31 +40,47 @@ array-share-prefix-out : tie.Need-array-share-prefix-out Inv-loop μ-loop
 array-share-prefix-out c = search needs
 
 slice-aggregate-write-all : tie.Need-slice-aggregate-write-all Inv-loop μ-loop
-slice-aggregate-write-all c = sym (length-take-le _ _ (omega (arith, c .before .before .fill .kept .1 .1 .1 .0, c .before .before .fill .ensures .fits, c .before .before .before .before .before .loop .inv)))
+slice-aggregate-write-all c =
+    let filled = c .before .before in
+    let l = filled .before .before .before .before .before .loop in
+    sym (length-take-le _ _ (omega (arith, filled .fill .kept .1 .1 .1 .0, filled .fill .ensures .fits, l .inv .0)))
 
 write-all-requires : tie.Need-write-all-requires Inv-loop μ-loop
 write-all-requires c κs = search needs
 
-sub-turns : tie.Need-sub-turns Inv-loop μ-loop
-sub-turns c = search needs
-
-is-nothing-requires : tie.Need-is-nothing-requires Inv-loop μ-loop
-is-nothing-requires c κs = search needs
-
-returns : tie.Need-returns Inv-loop μ-loop
-returns c = search needs
-
 returns-2 : tie.Need-returns-2 Inv-loop μ-loop
-returns-2 c = search needs
+returns-2 c = handed-within (c .before .before .before .before .before .before .before .before .before .loop .inv .2)
+
+add-done : tie.Need-add-done Inv-loop μ-loop
+add-done c =
+    let turn = c .before .before .before .before .before .before .before .before in
+    let l = turn .before .loop in
+    omega (arith, c .before .before .before .before .fill .ensures .fits, l .inv .0, l .inv .1, turn .loop-test .taken)
 
 loop-less : tie.Need-loop-less Inv-loop μ-loop
-loop-less c = search needs
+loop-less c =
+    let turn = c .before .before .before .before .before .before .before .before .before in
+    let l = turn .before .loop in
+    let part = c .before .before .before .before .before .fill in
+    let told = c .before .before .before .before .before .before .before in
+    let going = sym (told .before .is-nothing .ensures) ∙ told .if1 .left in
+    fill-steps (part .ensures) (omega (arith, l .inv .0)) (turn .loop-test .taken) going
 
 loop-again : tie.Need-loop-again Inv-loop μ-loop
-loop-again c = search needs
+loop-again c =
+    let turn = c .before .before .before .before .before .before .before .before .before in
+    let l = turn .before .loop in
+    let part = c .before .before .before .before .before .fill in
+    let told = c .before .before .before .before .before .before .before in
+    let going = sym (told .before .is-nothing .ensures) ∙ told .if1 .left in
+    let fewer = fill-steps (part .ensures) (omega (arith, l .inv .0)) (turn .loop-test .taken) going in (
+      omega (arith, part .kept .1 .1 .1 .0, l .inv .0),
+      omega (arith, part .ensures .fits, l .inv .0, l .inv .1, fewer),
+      handed-more (l .inv .2) (part .ensures),
+    )
 
 returns-3 : tie.Need-returns-3 Inv-loop μ-loop
-returns-3 c = search needs
+returns-3 c = handed-all (c .before .loop .inv .2) (inr (omega (arith, c .loop-test .left)))
 
 pub print-listing-spec : {M : Type 1} → statement M
 print-listing-spec =
@@ -62,15 +90,15 @@ print-listing-spec =
     μ-loop
     start-requires
     loop-holds
+    is-nothing-requires
+    returns
     slice-aggregate-fill
     fill-requires
     array-share-prefix-out
     slice-aggregate-write-all
     write-all-requires
-    sub-turns
-    is-nothing-requires
-    returns
     returns-2
+    add-done
     loop-less
     loop-again
     returns-3)

@@ -1,3 +1,4 @@
+-- `Panel::levels` shows code and level of voices 0, 1 and 2, in this order.
 use borrow.Author.Needs.{needs}
 use Rattle.panel.specs.Panel.{levels, shownTold}
 use Rattle.sid.specs.Sid.{named}

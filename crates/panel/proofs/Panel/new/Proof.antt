@@ -1,3 +1,4 @@
+-- `Panel::new` has a fresh chip and has counted no clock.
 use borrow.Author.Needs.{needs}
 use Rattle.panel.proofs.Panel.new.Statement.{statement}
 use Rattle.panel.proofs.Panel.new.Tie as tie

@@ -1,3 +1,4 @@
+-- `Panel::read` gives the byte that the chip gives, leaves the chip as that read leaves it, and counts no clock.
 use borrow.Author.Needs.{needs}
 use Rattle.panel.specs.Panel.{readOf}
 use Rattle.panel.proofs.Panel.read.Statement.{statement}

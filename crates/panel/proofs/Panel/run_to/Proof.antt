@@ -1,3 +1,4 @@
+-- `Panel::run_to` runs the clocks that the panel lacks of the stamp, and counts each; none where the stamp has gone by.
 use borrow.Author.Needs.{needs}
 use native.Mathlib.Nat.{add-zero}
 use native.Mathlib.Omega.{arith}

@@ -1,3 +1,4 @@
+-- `Panel::write` writes to the chip, and counts no clock.
 use borrow.Author.Needs.{needs}
 use Rattle.panel.proofs.Panel.write.Statement.{statement}
 use Rattle.panel.proofs.Panel.write.Tie as tie

@@ -1,3 +1,4 @@
+-- `Player::start` checks the whole score: a fresh panel, with the fields from 0 on or the refusal still to come.
 use borrow.Author.Needs.{needs}
 use Rattle.player.specs.Steps.{startOf}
 use Rattle.player.proofs.Player.start.Statement.{statement}

@@ -1,3 +1,4 @@
+-- `Player::step` plays the field at the player's place, or tells the refusal; with nothing left it does nothing.
 use borrow.Author.Needs.{needs}
 use mathlib.Core.Path.{_∙_, ap, refl, sym}
 use lib.Dec.{lit≤}
@@ -41,7 +42,8 @@ refuse-requires-2 c κs = search needs
 returns-3 : tie.Need-returns-3
 returns-3 c =
     let a = c .before .before .before .before .before .before .before .before .before .before .before .args in
-    rw (turn-read (a .s .now) (a .self) (c .before .before .before .before .before .before .before .rest2 .given .1) (sym (c .before .before .before .before .before .read-field .ensures) ∙ c .before .before .before .r .given .1)) (c .refuse2 .ensures)
+    let read = sym (c .before .before .before .before .before .read-field .ensures) ∙ c .before .before .before .r .given .1 in
+    rw (turn-read (a .s .now) (a .self) (c .before .before .before .before .before .before .before .rest2 .given .1) read) (c .refuse2 .ensures)
 
 enum-known-f : tie.Need-enum-known-f
 enum-known-f c = search needs
@@ -52,7 +54,8 @@ play-field-requires c κs = search needs
 returns-4 : tie.Need-returns-4
 returns-4 c =
     let a = c .before .before .before .before .before .before .before .before .before .before .before .args in
-    rw (turn-read (a .s .now) (a .self) (c .before .before .before .before .before .before .before .rest2 .given .1) (sym (c .before .before .before .before .before .read-field .ensures) ∙ c .before .before .before .f .given .1)) (c .play-field .ensures)
+    let read = sym (c .before .before .before .before .before .read-field .ensures) ∙ c .before .before .before .f .given .1 in
+    rw (turn-read (a .s .now) (a .self) (c .before .before .before .before .before .before .before .rest2 .given .1) read) (c .play-field .ensures)
 
 pub step-spec : {M : Type 1} → statement M
 step-spec =
