@@ -1,3 +1,4 @@
 pub mod Clocks
+pub mod Lines
 pub mod Loops
 pub mod Played
