@@ -72,6 +72,9 @@ module _ (n : ℕ) (s : List ℕ) (p : Player) where
   unfolding after
   after-last = ap (λ (k : ℕ). after k s p) one-more ∙ after-join n 1 s p
 
+pub nothing-after : {xs ys zs : List ℕ} → xs ++ ys ≡ zs → ys ≡ [] → xs ≡ zs
+nothing-after {xs} whole e = sym (append-nil xs) ∙ (ap (λ (ys : List ℕ). xs ++ ys) (sym e) ∙ whole)
+
 -- what was put at the start of a list that has room for it
 pub take-put : {l xs : List ℕ} {r : ℕ} {m : List ℕ} → Put l 0 xs r m → r ≤ length l → take r m ≡ xs
 take-put {l} {xs} {r} o h =
@@ -143,23 +146,18 @@ module _ {s : List ℕ} {p : Player} {steps : ℕ} {l : List ℕ} {q : Player} {
 
 -- from the start of a score, with as many steps as any score takes
 module _ {s l : List ℕ} {q : Player} {left at : ℕ} {m : List ℕ} (k : Made s (startOf s) mostSteps l q left at m) where
-  abbrev so-far : List ℕ
-  so-far = lines (k .made) s (startOf s)
-
-  listed-whole : so-far ++ lines left s q ≡ listing s
+  listed-whole : lines (k .made) s (startOf s) ++ lines left s q ≡ listing s
   listed-whole = made-whole k ∙ enough-steps s
 
   -- room for the listing is room for the next line
   pub listed-room : 0 < left → at + length (turn s q .text) ≤ length (listing s)
   listed-room h =
-      let b : length (listing s) ≡ length so-far + length (lines left s q) = sym (ap length listed-whole) ∙ length-append so-far (lines left s q) in
-      omega (arith, length-more left s q h, b, k .put .place)
+      let b = length-append (lines (k .made) s (startOf s)) (lines left s q) in
+      omega (arith, ap length listed-whole, b, length-more left s q h, k .put .place)
 
   -- no line is left: the listing is put
   pub listed-all : lines left s q ≡ [] → Put l 0 (listing s) at m
-  listed-all e =
-      let whole : so-far ≡ listing s = sym (append-nil so-far) ∙ (ap (λ (x : List ℕ). so-far ++ x) (sym e) ∙ listed-whole) in
-      subst (λ (x : List ℕ). Put l 0 x at m) whole (k .put)
+  listed-all e = subst (λ (text : List ℕ). Put l 0 text at m) (nothing-after listed-whole e) (k .put)
 
 module _ (s l : List ℕ) where
   pub no-room : length l < length (listing s) → (NoRoom ≡ intoAnswer s (length l)) × (l ≡ intoBuffer s l)

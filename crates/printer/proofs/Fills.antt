@@ -2,12 +2,12 @@
 use Prim.Native.Nat.{ℕ, zero, suc, _+_, _≤_, _<_}
 use native.Mathlib.Omega.{arith}
 use mathlib.Core.Bool.{true, false}
-use mathlib.Core.List.{List, [], _++_, append-nil, append-assoc}
+use mathlib.Core.List.{List, [], _++_, append-assoc}
 use mathlib.Core.Logic.{_⊎_, ⊎-elim}
 use mathlib.Core.Path.{_≡_, refl, ap, sym, _∙_}
 use lib.ListN.{length, take, length-append}
 use Rattle.listing.specs.Text.{Put, lineRoom}
-use Rattle.player.proofs.Loops.{lines-over, lines-none, take-put, made-whole}
+use Rattle.player.proofs.Loops.{lines-over, lines-none, nothing-after, take-put, made-whole}
 use Rattle.player.proofs.Played.{enough-steps}
 use Rattle.player.specs.declared.Player.{Player}
 use Rattle.player.specs.Listing.{listing}
@@ -47,9 +47,7 @@ filling-whole {s} (more {p = p} {left = left} {text = text} {r = r} {m = m} g f)
 module _ {s : List ℕ} {p : Player} {left : ℕ} {text : List ℕ} (g : Filling s p left text) where
   -- until nothing is left to do, or no step is left
   pub fills-listing : (isNothing (p .rest) ≡ true) ⊎ (left ≡ 0) → text ≡ listing s
-  fills-listing over =
-      let e : lines left s p ≡ [] = ⊎-elim (lines-over left s p) (lines-none left s p) over in
-      sym (append-nil text) ∙ (ap (λ (x : List ℕ). text ++ x) (sym e) ∙ filling-whole g)
+  fills-listing over = nothing-after (filling-whole g) (⊎-elim (lines-over left s p) (lines-none left s p) over)
 
   pub fills-within : length text ≤ length (listing s)
   fills-within = omega (arith, sym (length-append text (lines left s p)) ∙ ap length (filling-whole g))

@@ -49,7 +49,7 @@ write-all-requires : tie.Need-write-all-requires Inv-loop μ-loop
 write-all-requires c κs = search needs
 
 returns-2 : tie.Need-returns-2 Inv-loop μ-loop
-returns-2 c = handed-within (c .before .before .before .before .before .before .before .before .before .loop .inv .2)
+returns-2 c = omega (arith, handed-within (c .before .before .before .before .before .before .before .before .before .loop .inv .2))
 
 add-done : tie.Need-add-done Inv-loop μ-loop
 add-done c =
