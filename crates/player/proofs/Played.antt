@@ -3,9 +3,8 @@ use Prim.Native.Nat.{ℕ, zero, suc, _+_, _*_, _≤_}
 use native.Mathlib.Omega.{arith}
 use mathlib.Core.List.{List, [], _++_, append-nil}
 use mathlib.Core.Path.{_≡_, refl, ap, sym, subst}
-use lib.Dec.{eqb, lit≤}
+use lib.Dec.{lit≤}
 use lib.ListN.{length}
-use Rattle.laws.proofs.Cond.{either}
 use Rattle.listing.specs.Text.{refusedLine}
 use Rattle.panel.specs.declared.Panel.{Panel}
 use Rattle.panel.specs.Panel.{fresh}
@@ -14,11 +13,10 @@ use Rattle.refusals.specs.Refusals.{told}
 use Rattle.score.specs.declared.Field.{Field}
 use Rattle.score.specs.declared.FieldRead.{FieldRead}
 use Rattle.score.specs.declared.Order.{Order}
-use Rattle.score.specs.Fields.{lenOf, fieldAt}
+use Rattle.score.specs.Fields.{lenOf, tagAt, fieldAt}
 use Rattle.score.specs.Scores.{Parsed, good, bad, scoreOf, answer, checked, Chain, ends, goes}
 use Rattle.score.proofs.Chains.{score-chain}
-use Rattle.score.proofs.Fields.{stands}
-use Rattle.words.specs.Words.{numberAt}
+use Rattle.score.proofs.Fields.{stands, tags}
 use Rattle.player.specs.declared.Player.{Player}
 use Rattle.player.specs.declared.Rest.the-variants.{Fields, Refusal, Nothing}
 use Rattle.player.specs.Listing.{play, played, listingOf, listing, panelOf}
@@ -77,15 +75,12 @@ plays {s} (goes {at = at} {f = f} e a i r) p (suc n) h = then {t = onField p f _
 -- a known tag's length is four or more
 len-four : (tag : ℕ) → (lenOf tag ≡ 0 → ⊥) → 4 ≤ lenOf tag
 unfolding lenOf
-len-four tag =
-    let by = either (λ (n : ℕ). (n ≡ 0 → ⊥) → 4 ≤ n) in
-    by (eqb tag 0x01) 6 _ (λ _. lit≤ tt)
-    (by (eqb tag 0x02) 5 _ (λ _. lit≤ tt) (by (eqb tag 0x03) 4 _ (λ _. lit≤ tt) (by (eqb tag 0x7f) 4 0 (λ _. lit≤ tt) (λ k. absurd (k refl)))))
+len-four = tags (λ (tag : ℕ). 4 ≤ lenOf tag) (lit≤ tt) (lit≤ tt) (lit≤ tt) (lit≤ tt)
 
 -- each field takes seven bytes or more
 chain-sevens : {s : List ℕ} {at : ℕ} {o : Order} {fs : List Field} → Chain s at o fs → at + 7 * length fs ≤ length s
-chain-sevens {s} {at} (ends e a i) = let st = stands s at e in omega (arith, len-four (numberAt 1 s at) (st .known))
-chain-sevens {s} {at} (goes e a i r) = let st = stands s at e in omega (arith, len-four (numberAt 1 s at) (st .known), chain-sevens r)
+chain-sevens {s} {at} (ends e a i) = let st = stands s at e in omega (arith, len-four (tagAt s at) (st .whole .known))
+chain-sevens {s} {at} (goes e a i r) = let st = stands s at e in omega (arith, len-four (tagAt s at) (st .whole .known), chain-sevens r)
 
 module _ (s : List ℕ) where
   from

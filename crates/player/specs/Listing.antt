@@ -29,8 +29,7 @@ doneBy (End t) p = p
 abbrev pub atStamp : Field → Panel → Panel
 atStamp f p = ranTo (stampOf f) p
 
--- 'several fields may share a stamp and run in file order', 'Fields stamped as the end do run': the lines that fields
--- print, from a panel on
+-- 'several fields may share a stamp and run in file order', 'Fields stamped as the end do run': lines, from a panel on
 unfoldable pub play : List Field → Panel → List ℕ
 play [] p = []
 play (f ∷ fs) p = lineOf f (atStamp f p) ++ play fs (doneBy f (atStamp f p))
