@@ -1,4 +1,5 @@
-// Scenes that tools/bench plays on this chip and on the original, for a program in another language to call. Each gives a digest of what it heard.
+// Scenes that tools/bench plays on this chip and on the original, for a program in another language to call. Each gives
+// a digest of what it heard.
 use sid::Mos6581;
 ghost use mathlib.Core.Path.{_≡_};
 ghost use Prim.Native.Nat.{_<_};

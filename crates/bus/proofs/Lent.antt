@@ -198,7 +198,8 @@ module _ {M : Type 1} (𝓤 : URA M) (H : Heap 𝓤) (𝓜 : Model 𝓤 H) (𝓖
         -- [what f asks; the lender's part; _4; …; room for _3; …; _2's end; _1; …; room for _0; …]
         calls-at ! (fmOf 𝓤 H (W .laws) 𝓣) (Changed g) known (to h α l₂ δ) (and-then ! (load ! (from ! (stop !)) (look ! 2 refl)) (no-more !)) (λ v.
         answered ! tt v unit (InternalDataBus × Unit {0}) (‵ (flft (α ∷ []) fullShare) ⊛ ‵ ftrue) (lasts clock.ended (α ∷ [], tt) (at l₂ 0 δ h, tt)) (λ _ zs. zs .0 ≡ g h) (λ u zs is e. split ! $ move ! (2 ∷ []) $ fsplit ! $
-        -- [the last value; true; the token; true; the lender's part; _4; …; room for _3; …; _2's end; _1; …; room for _0; …]
+        -- [the last value; true; the token; true; the lender's part; _4; …; room for _3; …; _2's end; _1; …; room for
+        -- _0; …]
         land ! (from ! (stop !)) (init ! 7 refl (nothing-lawful 𝓤 H A W .typed u _ is .0)) $ move ! (2 ∷ 4 ∷ 0 ∷ []) $ back ! tt (zs .0) (λ left.
         -- [_2; true; true; _4; …; _3; …; _2's end; _1; …; room for _0; …; true; what b owns]
         assigns ! (of-opd ! (load ! (from ! (stop !)) (look ! 0 refl))) (from ! (stop !)) (init ! 10 refl (fits W left)) $ returns ! (look ! 10 refl) $

@@ -277,7 +277,8 @@ module _ {M : Type 1} (𝓤 : URA M) (H : Heap 𝓤) (𝓜 : Model 𝓤 H) (𝓖
         looks ! tt T.the-row (Is T.the-row) (shows 𝓤 H A T.the-row) (LL.vals T.the-type T′.the-laws) (LL.tells T.the-type T′.the-laws) (LL.copy T.the-type T′.the-copy 𝓤 H A W) h b o (λ q′ vs.
         spelt ! T.the-row (Is T.the-row) (shows 𝓤 H A T.the-row) (LL.vals T.the-type T′.the-laws) (LL.tells T.the-type T′.the-laws) q′ h vs b o $
         move ! (1 ∷ []) $ peeks ! T.the-row (Is T.the-row) (shows 𝓤 H A T.the-row) h (mach h ∷ []) (λ is. move ! (1 ∷ 0 ∷ []) $
-        -- [a share of the bus; what it owns; what shuts it; the fractured borrow; true; res; true; _1; …; room for _0; …]
+        -- [a share of the bus; what it owns; what shuts it; the fractured borrow; true; res; true; _1; …; room for _0;
+        -- …]
         assigns ! (of-opd ! (load ! (from ! (hop ! (look ! 7 refl) (fld ! refl (stop !)))) (look-in ! 0 (sub ! 0 refl (whole !))))) (from ! (stop !)) (init ! 9 refl (tt, record { fits = is .1 .1 .0 .1 })) $
         shuts ! tt T.the-row q′ h (mach h ∷ []) b o $ returns ! (look ! 7 refl) $ keep ! (7 ∷ 8 ∷ 5 ∷ 6 ∷ 0 ∷ 3 ∷ 1 ∷ []) $ freed ! $ freed ! $ free0 ! $ by ! (floating-exits (is .1 .1 .0 .1))))))
 

@@ -47,7 +47,8 @@ impl Tally {
     }
 }
 
-// Reads a file of the program's folder, as far as there is room; gives the number of bytes, 0 where it cannot be opened.
+// Reads a file of the program's folder, as far as there is room; gives the number of bytes, 0 where it cannot be
+// opened.
 pub fn load(path: &[u8], list: &mut [u8]) -> usize
     ensures { λ r. ⌜ Counts r (now (list .exit)) ⌝ }
 {

@@ -1,4 +1,5 @@
-// One clock of the chip (document 01; the Rust's `tick`). What is due is tested outside its call, so that a quiet clock touches no array.
+// One clock of the chip (document 01; the Rust's `tick`). What is due is tested outside its call, so that a quiet clock
+// touches no array.
 use floating::FloatingBus;
 use noise::NoiseGenerator;
 use oscillator::Oscillator;

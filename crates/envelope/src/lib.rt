@@ -1,4 +1,5 @@
-// The envelope generator (document 01, 'Envelope'; envelope.rs), by value: a method gives the envelope as the Rust's leaves it.
+// The envelope generator (document 01, 'Envelope'; envelope.rs), by value: a method gives the envelope as the Rust's
+// leaves it.
 ghost use mathlib.Core.Path.{_≡_};
 ghost use Rattle.envelope.specs.Sets.{setMotion, setRequestedMotion, setMotionDelay};
 ghost use Rattle.envelope.specs.Envelope.{periodOf, isRising, risingRateSelected, rateInForce, targetRefreshed, divisorCommitted, edge, advanced, gateSampled, motionTaken, motionCommitted, divisorFor, divisorSelected, steppedUp, steppedDown, stepped, amplitudeDue, amplitudeClocked, curveEnded, curveDue, curveClocked, curveCounted, matchUsed, matchConsumed, levelRead, rateClocked, clocked, quiescent, freshGate, fresh, reset, attackDecaySet, sustainReleaseSet, gateSet};

@@ -1,4 +1,5 @@
-// The floating lines (document 01, 'Oscillator'; FloatingBus of oscillator.rs): twelve lines that keep a code once no waveform drives them.
+// The floating lines (document 01, 'Oscillator'; FloatingBus of oscillator.rs): twelve lines that keep a code once no
+// waveform drives them.
 // Their numbers stand apart from the array of charges, which is touched only where a leak is due.
 use laws::max;
 use laws::saturating_sub;

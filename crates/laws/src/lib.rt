@@ -1,4 +1,5 @@
-// Definitions and laws that more than one crate cites: see specs and proofs. Of code, the Rust's `max` and `saturating_sub` alone.
+// Definitions and laws that more than one crate cites: see specs and proofs. Of code, the Rust's `max` and
+// `saturating_sub` alone.
 ghost use mathlib.Core.Path.{_≡_};
 ghost use Prim.Native.Nat.{_-_, max};
 

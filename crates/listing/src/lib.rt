@@ -1,4 +1,5 @@
-// The lines that `replay` prints (document 01, 'Score and program'), each put at the start of a lent buffer of `LINE` bytes.
+// The lines that `replay` prints (document 01, 'Score and program'), each put at the start of a lent buffer of `LINE`
+// bytes.
 use refusals::Refused;
 ghost use mathlib.Core.Path.{_≡_};
 ghost use Prim.Native.Nat.{_+_, _≤_, _<_};

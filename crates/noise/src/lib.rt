@@ -1,6 +1,7 @@
 // The noise register (document 01, 'Oscillator'; NoiseGenerator of oscillator.rs): 23 stages, each with a charge.
-// Its numbers stand apart from the two arrays of charges, so that a caller's loop need not touch an array on a clock on which nothing happens:
-// `Noise` has what asks and moves the numbers alone, the functions on one array stand beside it, and `NoiseGenerator` has the Rust's methods.
+// Its numbers stand apart from the two arrays of charges, so that a caller's loop need not touch an array on a clock on
+// which nothing happens: `Noise` has what asks and moves the numbers alone, the functions on one array stand beside it,
+// and `NoiseGenerator` has the Rust's methods.
 use laws::max;
 use laws::saturating_sub;
 ghost use mathlib.Core.Path.{_≡_};

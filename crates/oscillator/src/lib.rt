@@ -1,6 +1,7 @@
 // The oscillator of one voice (document 01, 'Oscillator'; oscillator.rs): phase, pulse, noise register, floating lines.
-// The Rust's fields stand in two structs of numbers, `Control` (what the registers say) and `Tone` (what a clock changes), beside the noise
-// register and the floating lines. A caller's loop holds these apart and uses what `Control` and `Tone` have; `Oscillator` has the Rust's methods.
+// The Rust's fields stand in two structs of numbers, `Control` (what the registers say) and `Tone` (what a clock
+// changes), beside the noise register and the floating lines. A caller's loop holds these apart and uses what `Control`
+// and `Tone` have; `Oscillator` has the Rust's methods.
 use floating::Floating;
 use floating::FloatingBus;
 use noise::Noise;
@@ -184,7 +185,8 @@ impl Control {
         self.waveform_at_phase(tone, visible, modulator_acc)
     }
 
-    // `code` in three: a caller's loop keeps the settling apart. The code before lines are loaded, whether they are, and the code then.
+    // `code` in three: a caller's loop keeps the settling apart. The code before lines are loaded, whether they are,
+    // and the code then.
     pub fn plain_code(self, tone: Tone, visible: u16, floats: u16, modulator_acc: u32) -> u16
         ensures { λ r. ⌜ r ≡ plainCode self tone visible floats «modulator_acc» ⌝ }
     {

@@ -1,5 +1,6 @@
-// Replays data/calls, the oracle's calls on one oscillator: what each returned, and the digest of the whole state after it.
-// data/states has the states that some calls start from. Both lists are made by tools/oracle, which says how they are laid out:
+// Replays data/calls, the oracle's calls on one oscillator: what each returned, and the digest of the whole state after
+// it. data/states has the states that some calls start from. Both lists are made by tools/oracle, which says how they
+// are laid out:
 // cargo run --release -- list oscillator_calls, and oscillator_states
 use cases::Tally;
 use floating::Floating;

@@ -12,7 +12,8 @@ use Rattle.panel.specs.declared.PanelRead.{PanelRead}
 abbrev pub fresh : Panel
 fresh = record { chip = Sid·fresh; clock = 0 }
 
--- 'Stamp n means after exactly n clocks of a fresh chip': the chip runs as many clocks as it lacks of the stamp, and each is counted
+-- 'Stamp n means after exactly n clocks of a fresh chip': the chip runs as many clocks as it lacks of the stamp, and
+-- each is counted
 unfoldable pub ranTo : ℕ → Panel → Panel
 ranTo stamp p = record { chip = ticks (stamp - p .clock) (p .chip); clock = p .clock + (stamp - p .clock) }
 

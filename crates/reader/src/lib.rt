@@ -1,5 +1,6 @@
-// The score's reader (document 01, 'A form for each place': 'a reader that refers to its bytes and a place'). Its functions are thin, since each is
-// proved by a walk of its code; every other caller uses `read_field`, which has plain parameters.
+// The score's reader (document 01, 'A form for each place': 'a reader that refers to its bytes and a place'). Its
+// functions are thin, since each is proved by a walk of its code; every other caller uses `read_field`, which has plain
+// parameters.
 ghost use mathlib.Core.Path.{_≡_};
 ghost use Rattle.score.specs.Fields.{fieldAt};
 

@@ -1,4 +1,5 @@
-// Replays data/scores: scores one after the other, each after its length in four bytes. Its file stdout has what the oracle says.
+// Replays data/scores: scores one after the other, each after its length in four bytes. Its file stdout has what the
+// oracle says.
 // The lists are made by tools/oracle: cargo run --release -- list replay_scores, and list replay_listings
 ghost use Rattle.io.specs.Counts.{Counts};
 

@@ -1,4 +1,5 @@
-// The score (document 01, 'Score and program'): tagged fields, one read at a place, and the whole checked before the first clock.
+// The score (document 01, 'Score and program'): tagged fields, one read at a place, and the whole checked before the
+// first clock.
 use refusals::Refusal;
 use refusals::Refused;
 ghost use mathlib.Core.Path.{_≡_};

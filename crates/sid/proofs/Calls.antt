@@ -1,4 +1,5 @@
--- Runs of calls: joined they follow each other, and n ticks among them are `ticks n`, which is what `run` gives. Assumes nothing.
+-- Runs of calls: joined they follow each other, and n ticks among them are `ticks n`, which is what `run` gives.
+-- Assumes nothing.
 use mathlib.Core.Path.{_≡_, refl, ap, sym, _∙_}
 use mathlib.Core.List.{List, [], _∷_, _++_}
 use Prim.Native.Nat.{ℕ, zero, suc, _+_}

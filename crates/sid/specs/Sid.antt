@@ -1,4 +1,5 @@
--- The chip: document 01, 'Data bus', 'Oscillator' and 'Numbers a caller can get back'; sid.rs without filter and converter.
+-- The chip: document 01, 'Data bus', 'Oscillator' and 'Numbers a caller can get back'; sid.rs without filter and
+-- converter.
 use Prim.Native.Nat.{ℕ, zero, suc, _/_, _%_}
 use mathlib.Core.Bool.{Bool, cond, not, _&&_}
 use mathlib.Core.List.{List, [], _∷_}
@@ -61,7 +62,8 @@ writtenVoice v register value = record {
 unfoldable pub writtenTo : ℕ → Voice → ℕ → ℕ → Voice
 writtenTo n v register value = cond (eqb (register / 7) n) (writtenVoice v (register % 7) value) v
 
--- 'Every write, also to an unused address, drives the byte'; 'Writes to 0x15 to 0x18 therefore only drive the bus' (write)
+-- 'Every write, also to an unused address, drives the byte'; 'Writes to 0x15 to 0x18 therefore only drive the bus'
+-- (write)
 unfoldable pub written : Mos6581 → ℕ → ℕ → Mos6581
 written c address value = record {
   «voice_0» = writtenTo 0 (c .«voice_0») (register address) value;
@@ -137,8 +139,8 @@ voiced1 c = withVoices c (c .«voice_0») (voiced (c .«voice_1») (phaseOf (c .
 unfoldable pub voiced2 : Mos6581 → Mos6581
 voiced2 c = withVoices c (c .«voice_0») (c .«voice_1») (voiced (c .«voice_2») (phaseOf (c .«voice_1»)))
 
--- 'then synchronisation, judged from marks read beforehand': a source whose mark is set takes along a voice with sync enabled, unless the source, with sync
--- enabled too, sees its own source's mark
+-- 'then synchronisation, judged from marks read beforehand': a source whose mark is set takes along a voice with sync
+-- enabled, unless the source, with sync enabled too, sees its own source's mark
 unfoldable pub syncs : Bool → Bool → Bool → Bool → Bool
 syncs rising sync sourceSync sourceRising = rising && (sync && not (sourceSync && sourceRising))
 

@@ -1,4 +1,5 @@
-// The chip without filter and converter (document 01; sid.rs): register decode, reads, resets, synchronisation. Crates `clock` and `span` tick it.
+// The chip without filter and converter (document 01; sid.rs): register decode, reads, resets, synchronisation. Crates
+// `clock` and `span` tick it.
 use bus::InternalDataBus;
 use envelope::Envelope;
 use oscillator::Control;
@@ -161,7 +162,8 @@ impl Voice {
     }
 }
 
-// The conditions of the Rust's `tick`, with the voice's source and the source's source as they were before any synchronisation.
+// The conditions of the Rust's `tick`, with the voice's source and the source's source as they were before any
+// synchronisation.
 pub fn synced(
     tone: Tone,
     control: Control,

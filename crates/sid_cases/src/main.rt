@@ -1,4 +1,5 @@
-// Replays the oracle's calls on one chip, from standard input: what each answered; ticks answer for every clock by a digest.
+// Replays the oracle's calls on one chip, from standard input: what each answered; ticks answer for every clock by a
+// digest.
 // The list is made by tools/oracle, which says how it is laid out: cargo run --release -- list sid
 use cases::Tally;
 use sid::Answer;

@@ -1,4 +1,5 @@
-// Any number of clocks in one loop. The parts of the voices stand in locals of their own, and an array is touched only where something is due.
+// Any number of clocks in one loop. The parts of the voices stand in locals of their own, and an array is touched only
+// where something is due.
 use floating::FloatingBus;
 use noise::NoiseGenerator;
 use oscillator::Oscillator;

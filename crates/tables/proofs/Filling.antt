@@ -1,4 +1,5 @@
--- `refusal` and `tableAfter`, one law for each way that a fill goes; and any two answers with the same number and place are equal. Assumes nothing.
+-- `refusal` and `tableAfter`, one law for each way that a fill goes; and any two answers with the same number and place
+-- are equal. Assumes nothing.
 use mathlib.Core.Path.{_≡_, refl, ap}
 use mathlib.Core.Bool.{true, false}
 use mathlib.Core.List.{List}

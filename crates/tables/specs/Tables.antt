@@ -17,7 +17,8 @@ use Rattle.waveforms.specs.Waveforms.{settled, needsLoading}
 unfoldable pub hasTable : ℕ → Bool
 hasTable s = ltb s 16 && needsLoading s
 
--- number and place of the refusal, if any: 1 'table for a selection above 15 or with under two bits', 2 'table part not 4096 entries', both at 0; '1 comes before 2'
+-- number and place of the refusal, if any: 1 'table for a selection above 15 or with under two bits', 2 'table part not
+-- 4096 entries', both at 0; '1 comes before 2'
 unfoldable pub refusal : ℕ → ℕ → Option Told
 refusal s size = cond (hasTable s) (cond (eqb size 4096) none (some (numbered 2 0))) (some (numbered 1 0))
 

@@ -1,5 +1,5 @@
-// Replays the oracle's lists data/waveforms (triangles, loaded codes, refusals, all settled tables) and data/settling (codes
-// at the edge of a line). They are made by tools/oracle: cargo run --release -- list NAME
+// Replays the oracle's lists data/waveforms (triangles, loaded codes, refusals, all settled tables) and data/settling
+// (codes at the edge of a line). They are made by tools/oracle: cargo run --release -- list NAME
 use cases::Tally;
 use tables::Filled;
 use waveforms::LineArray;

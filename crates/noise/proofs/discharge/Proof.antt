@@ -2,7 +2,6 @@
 use denote.Ref.{now}
 use Rattle.laws.proofs.Loops.{ended}
 use Prim.Native.Nat.{_-_, _≤_}
-use Rattle.laws.proofs.Loops.{ended}
 use Rattle.noise.specs.Noise.{dischargedTo}
 use mathlib.Core.Logic.{⊎-elim}
 use mathlib.Core.Path.{_∙_, _≡_, refl, sym}
