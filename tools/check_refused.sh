@@ -49,6 +49,7 @@ function judged(    what, name, want, have) {
     what = "fn"; name = file
     gsub(/\+/, "", name); gsub(/\//, "::", name)
   }
+  gsub(/is not in scope here, so what is shown/, "", error) # a remark on a type as it is printed
   want = kind(marked(error, "expected type ")); have = kind(marked(error, "but this has type "))
   if (match(error, /`[^`]*` was not admitted/)) print "waits", what ":" name, substr(error, RSTART + 1, RLENGTH - 19)
   else if (error ~ /has no field|not in scope|has no `Need-|can be named from here|expected type `[^ `]*(tie|lts)\.Need-|cannot find/ \
