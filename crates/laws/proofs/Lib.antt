@@ -1,3 +1,4 @@
+pub mod After
 pub mod Bools
 pub mod Build
 pub mod Cond
