@@ -85,7 +85,7 @@ pub extern "C" fn bench_idle(clocks: u64) -> u64
     ensures { λ r. ⌜ r ≡ Bench·heard (ticks clocks fresh) ⌝ }
 {
     let chip = Mos6581::new();
-    let after = span::run(chip, clocks);
+    let after = run::run(chip, clocks);
     heard(after)
 }
 
@@ -95,7 +95,7 @@ pub extern "C" fn bench_run(control: u8, clocks: u64) -> u64
     ensures { λ r. ⌜ r ≡ Bench·heard (ticks clocks (Bench·scene control)) ⌝ }
 {
     let chip = scene(control);
-    let after = span::run(chip, clocks);
+    let after = run::run(chip, clocks);
     heard(after)
 }
 
@@ -108,7 +108,7 @@ pub extern "C" fn bench_ticks(control: u8, clocks: u64) -> u64
     let mut sum: u64 = 0;
     let mut i: u64 = 0;
     while i < clocks {
-        let t = clock::tick(chip);
+        let t = tick::tick(chip);
         chip = t.chip;
         let d = digest(
             t.code_0,
@@ -137,7 +137,7 @@ pub extern "C" fn bench_writes(seed: u16, writes: u64, apart: u64) -> u64
         let register = x % 21;
         let value = value_for(register, x);
         chip = chip.write(register, value);
-        chip = span::run(chip, apart);
+        chip = run::run(chip, apart);
         i += 1;
     }
     heard(chip)

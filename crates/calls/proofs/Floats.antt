@@ -17,10 +17,10 @@ use Rattle.oscillator.specs.Oscillator.{writtenControl, writtenBus, resetPhase,
 use Rattle.oscillator.specs.declared.Control.{Control}
 use Rattle.oscillator.specs.declared.Oscillator.{Oscillator}
 use Rattle.oscillator.proofs.Floats.{tick-control, tick-cycle, tick-lines, tick-floats, write-captures}
-use Rattle.sid.specs.Sid.{fresh, register, writtenVoice, writtenTo, written, readAt, clockedVoice, voiced, synchronisedIf, ticked, codeOf, Call, write, read, tick, clear, potX, potY, called, after, clocksOf}
+use Rattle.sid.specs.Sid.{fresh, register, writtenOscillator, writtenVoice, writtenTo, written, readAt, clockedVoice, voiced, synchronisedIf, ticked, codeOf, Call, write, read, tick, clear, potX, potY, called, after, clocksOf}
 use Rattle.sid.specs.declared.Voice.{Voice}
 use Rattle.sid.specs.declared.Mos6581.{Mos6581}
-use Rattle.calls.specs.Calls.{Which, first, second, third, number, of, controlOf, waveformOf, cycleOf, Each, none, next, leavesOff, Latched, Captures, Floats}
+use Rattle.calls.specs.Calls.{Which, voice-0, voice-1, voice-2, number, of, controlOf, waveformOf, cycleOf, Each, none, next, leavesOff, Latched, Captures, Floats}
 use Rattle.calls.proofs.Voices.{Face, tick-voice, read-voice, pot-x-voice, pot-y-voice, write-voice, write-oscillator, write-face}
 use Rattle.calls.proofs.Latched.{latched-after, latched-fresh, read-osc3}
 
@@ -78,9 +78,9 @@ register-stays v r value z h =
 
 -- the control register of voice n is 7 n + 4
 control-at : (w : Which) → controlOf w ≡ 7 * number w + 4
-control-at first = refl
-control-at second = refl
-control-at third = refl
+control-at voice-0 = refl
+control-at voice-1 = refl
+control-at voice-2 = refl
 
 write-stays
     : (w : Which) (c : Mos6581) (address value : ℕ)
@@ -144,7 +144,7 @@ code-drifts w (potY value ∷ calls) c b cycle (next h r) d =
 -- ---- the capture
 
 write-control : (n : ℕ) (v : Voice) (r value : ℕ) → r ≡ 7 * n + 4 → writtenTo n v r value .oscillator ≡ Oscillator·written (v .oscillator) value
-unfolding writtenTo writtenVoice
+unfolding writtenTo writtenVoice writtenOscillator
 write-control n v r value e =
     let p : r / 7 ≡ n = omega arith in
     let q : r % 7 ≡ 4 = omega arith in
@@ -226,15 +226,15 @@ chip-floats-fresh w calls address value h = chip-floats w (after calls fresh) ad
 -- and what OSC3 then shows of voice 2
 pub read-osc3-floats
     : (c : Mos6581) (address value : ℕ)
-    → Latched (of third c)
-    → Captures third c address value
+    → Latched (of voice-2 c)
+    → Captures voice-2 c address value
     → (calls : List Call) (from : ℕ)
-    → Each (leavesOff third) calls
+    → Each (leavesOff voice-2) calls
     → register from ≡ 0x1b
-    → (clocksOf calls ≤ 1260019 → readAt (after calls (written c address value)) from .byte ≡ codeOf (of third c) / 2 ^ 4)
+    → (clocksOf calls ≤ 1260019 → readAt (after calls (written c address value)) from .byte ≡ codeOf (of voice-2 c) / 2 ^ 4)
     × (1260020 ≤ clocksOf calls → readAt (after calls (written c address value)) from .byte ≡ 0)
 unfolding after called
 read-osc3-floats c address value l h calls from r e =
-    let k = chip-floats third c address value l h in
-    let shows = read-osc3 (after calls (written c address value)) from e (latched-after third (write address value ∷ calls) c l) in
+    let k = chip-floats voice-2 c address value l h in
+    let shows = read-osc3 (after calls (written c address value)) from e (latched-after voice-2 (write address value ∷ calls) c l) in
     ((λ n. shows ∙ ap (λ (x : ℕ). x / 2 ^ 4) (k .whole calls r n)), (λ n. shows ∙ ap (λ (x : ℕ). x / 2 ^ 4) (k .gone calls r n)))

@@ -10,7 +10,7 @@ use Rattle.oscillator.proofs.Floats.{tick-cycle}
 use Rattle.sid.specs.Sid.{fresh, resetVoice, reset, clockedVoice, voiced, synchronisedIf, ticked, Call, write, read, tick, clear, potX, potY, called, after}
 use Rattle.sid.specs.declared.Voice.{Voice}
 use Rattle.sid.specs.declared.Mos6581.{Mos6581}
-use Rattle.calls.specs.Calls.{Which, first, second, third, of, cycleOf, cycleAfter, Agree}
+use Rattle.calls.specs.Calls.{Which, voice-0, voice-1, voice-2, of, cycleOf, cycleAfter, Agree}
 use Rattle.calls.proofs.Voices.{Face, tick-voice, read-voice, pot-x-voice, pot-y-voice, reset-voice, fresh-voice, write-face}
 
 -- 'Reset keeps level and rate phase', the phase, and the pots
@@ -20,9 +20,9 @@ pub reset-keeps
     × (of w (reset c) .oscillator .tone .accumulator ≡ of w c .oscillator .tone .accumulator)
     × (reset c .«pot_x» ≡ c .«pot_x») × (reset c .«pot_y» ≡ c .«pot_y»)
 unfolding reset resetVoice Envelope·reset Oscillator·fresh
-reset-keeps first c = (refl, refl, refl, refl, refl)
-reset-keeps second c = (refl, refl, refl, refl, refl)
-reset-keeps third c = (refl, refl, refl, refl, refl)
+reset-keeps voice-0 c = (refl, refl, refl, refl, refl)
+reset-keeps voice-1 c = (refl, refl, refl, refl, refl)
+reset-keeps voice-2 c = (refl, refl, refl, refl, refl)
 
 -- ---- the cycle
 

@@ -10,10 +10,10 @@ use Rattle.envelope.specs.declared.Envelope.{Envelope}
 use Rattle.envelope.proofs.Readback.{clock-reads}
 use Rattle.oscillator.specs.Oscillator.{fresh as Oscillator·fresh, latchedTone, latchedCode, resetPhase, synchronised as Oscillator·synchronised, voiced as Oscillator·voiced}
 use Rattle.sid.specs.Sid.{register, fresh, resetVoice, readDriven, readAt, writtenVoice, clockedVoice, voiced, synchronisedIf, ticked, codeOf, levelOf, Call, write, read, tick, clear, potX, potY, called, after}
-use Rattle.sid.proofs.Calls.{after-join}
+use Rattle.sid.proofs.Joined.{after-join}
 use Rattle.sid.specs.declared.Voice.{Voice}
 use Rattle.sid.specs.declared.Mos6581.{Mos6581}
-use Rattle.calls.specs.Calls.{Which, third, of, Each, none, next, idle, Last, idles, ticks, clears, Latched}
+use Rattle.calls.specs.Calls.{Which, voice-2, of, Each, none, next, idle, Last, idles, ticks, clears, Latched}
 use Rattle.calls.proofs.Voices.{tick-voice, tick-envelope, read-voice, pot-x-voice, pot-y-voice, reset-voice, fresh-voice, Face, face, write-face, register-face, call-keeps, calls-keep}
 
 -- every run of calls ends with idle calls after a tick, after a reset, or after nothing: the laws `…-after-tick`,
@@ -110,28 +110,28 @@ latched-after w = calls-keep (λ c. Latched (of w c)) (call-latched w)
 pub latched-fresh : (w : Which) (calls : List Call) → Latched (of w (after calls fresh))
 latched-fresh w calls = latched-after w calls fresh (subst Latched (sym (fresh-voice w)) (fresh-latched _ _))
 
-pub read-osc3 : (c : Mos6581) (address : ℕ) → register address ≡ 0x1b → Latched (of third c) → readAt c address .byte ≡ codeOf (of third c) / 2 ^ 4
+pub read-osc3 : (c : Mos6581) (address : ℕ) → register address ≡ 0x1b → Latched (of voice-2 c) → readAt c address .byte ≡ codeOf (of voice-2 c) / 2 ^ 4
 unfolding readAt readDriven
 read-osc3 c address e h = simp e (ap (λ (x : ℕ). x / 2 ^ 4 % 256) (h .shown) ∙ omega (arith, h .twelve))
 
 -- of any chip that calls make of a fresh one; and of any chip after any calls, a tick, and calls without tick and reset
-pub read-osc3-fresh : (calls : List Call) (address : ℕ) → register address ≡ 0x1b → readAt (after calls fresh) address .byte ≡ codeOf (of third (after calls fresh)) / 2 ^ 4
-read-osc3-fresh calls address e = read-osc3 (after calls fresh) address e (latched-fresh third calls)
+pub read-osc3-fresh : (calls : List Call) (address : ℕ) → register address ≡ 0x1b → readAt (after calls fresh) address .byte ≡ codeOf (of voice-2 (after calls fresh)) / 2 ^ 4
+read-osc3-fresh calls address e = read-osc3 (after calls fresh) address e (latched-fresh voice-2 calls)
 
 pub read-osc3-after-tick
     : (calls more : List Call) (c : Mos6581) (address : ℕ)
     → Each idle more
     → register address ≡ 0x1b
-    → readAt (after (calls ++ (tick ∷ more)) c) address .byte ≡ codeOf (of third (ticked (after calls c))) / 2 ^ 4
+    → readAt (after (calls ++ (tick ∷ more)) c) address .byte ≡ codeOf (of voice-2 (ticked (after calls c))) / 2 ^ 4
 unfolding called
 read-osc3-after-tick calls more c address r e =
-    let f = last-face third calls tick more c r in
-    read-osc3 (after (calls ++ (tick ∷ more)) c) address e (face-latched _ _ f (tick-latched third (after calls c)))
+    let f = last-face voice-2 calls tick more c r in
+    read-osc3 (after (calls ++ (tick ∷ more)) c) address e (face-latched _ _ f (tick-latched voice-2 (after calls c)))
     ∙ ap (λ (x : Face). x .code / 2 ^ 4) f
 
 -- ---- ENV3 is 'its readback': 'the readback takes the old level'; a reset 'sets the readback to the level'
 
-pub read-env3 : (c : Mos6581) (address : ℕ) → register address ≡ 0x1c → readAt c address .byte ≡ of third c .envelope .readback
+pub read-env3 : (c : Mos6581) (address : ℕ) → register address ≡ 0x1c → readAt c address .byte ≡ of voice-2 c .envelope .readback
 unfolding readAt readDriven
 read-env3 c address e = simp e
 
@@ -139,28 +139,28 @@ pub read-env3-after-tick
     : (calls more : List Call) (c : Mos6581) (address : ℕ)
     → Each idle more
     → register address ≡ 0x1c
-    → readAt (after (calls ++ (tick ∷ more)) c) address .byte ≡ levelOf (of third (after calls c))
+    → readAt (after (calls ++ (tick ∷ more)) c) address .byte ≡ levelOf (of voice-2 (after calls c))
 unfolding called
 read-env3-after-tick calls more c address r e =
     read-env3 (after (calls ++ (tick ∷ more)) c) address e
-    ∙ ap (λ (f : Face). f .env) (last-face third calls tick more c r)
-    ∙ ap (λ (x : Envelope). x .readback) (tick-envelope third (after calls c))
-    ∙ clock-reads (of third (after calls c) .envelope)
+    ∙ ap (λ (f : Face). f .env) (last-face voice-2 calls tick more c r)
+    ∙ ap (λ (x : Envelope). x .readback) (tick-envelope voice-2 (after calls c))
+    ∙ clock-reads (of voice-2 (after calls c) .envelope)
 
 pub read-env3-after-reset
     : (calls more : List Call) (c : Mos6581) (address : ℕ)
     → Each idle more
     → register address ≡ 0x1c
-    → readAt (after (calls ++ (clear ∷ more)) c) address .byte ≡ levelOf (of third (after calls c))
+    → readAt (after (calls ++ (clear ∷ more)) c) address .byte ≡ levelOf (of voice-2 (after calls c))
 unfolding called resetVoice Envelope·reset
 read-env3-after-reset calls more c address r e =
     read-env3 (after (calls ++ (clear ∷ more)) c) address e
-    ∙ ap (λ (f : Face). f .env) (last-face third calls clear more c r)
-    ∙ ap (λ (v : Voice). v .envelope .readback) (reset-voice third (after calls c))
+    ∙ ap (λ (f : Face). f .env) (last-face voice-2 calls clear more c r)
+    ∙ ap (λ (v : Voice). v .envelope .readback) (reset-voice voice-2 (after calls c))
 
 pub read-env3-while-fresh : (calls : List Call) (address : ℕ) → Each idle calls → register address ≡ 0x1c → readAt (after calls fresh) address .byte ≡ 0xaa
 unfolding Envelope·fresh
 read-env3-while-fresh calls address r e =
     read-env3 (after calls fresh) address e
-    ∙ ap (λ (f : Face). f .env) (idle-face third calls fresh r)
-    ∙ ap (λ (v : Voice). v .envelope .readback) (fresh-voice third)
+    ∙ ap (λ (f : Face). f .env) (idle-face voice-2 calls fresh r)
+    ∙ ap (λ (v : Voice). v .envelope .readback) (fresh-voice voice-2)

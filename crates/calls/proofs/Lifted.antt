@@ -15,7 +15,7 @@ use Rattle.release.proofs.Sustain.{sustain-holds}
 use Rattle.sid.specs.Sid.{ticked, levelOf, Call, write, read, tick, clear, potX, potY, called, after, clocksOf}
 use Rattle.sid.specs.declared.Voice.{Voice}
 use Rattle.sid.specs.declared.Mos6581.{Mos6581}
-use Rattle.calls.specs.Calls.{Which, of, Each, none, next, spares, Releases}
+use Rattle.calls.specs.Calls.{Which, of, Each, none, next, spares, ChipReleases}
 use Rattle.calls.proofs.Voices.{tick-envelope, read-voice, pot-x-voice, pot-y-voice, write-envelope}
 
 -- the envelope of a voice that is spared sees the ticks alone
@@ -49,7 +49,7 @@ level-after w c calls n r q =
     ap (λ (x : Envelope). x .volume) (envelope-after w calls c r) ∙ ap (λ (m : ℕ). Envelope·clocks m (of w c .envelope) .volume) q
 
 -- DEMAND 3 for any voice and any calls that spare it
-pub chip-demand-3 : (w : Which) (c : Mos6581) (P : ℕ) → Settled (of w c .envelope) P → Releases w c P
+pub chip-demand-3 : (w : Which) (c : Mos6581) (P : ℕ) → Settled (of w c .envelope) P → ChipReleases w c P
 chip-demand-3 w c P h =
     let d = demand-3 (of w c .envelope) P h in
     record {

@@ -9,7 +9,7 @@ use Rattle.bus.specs.Bus.{holds, kept}
 use Rattle.envelope.specs.Envelope.{clocks as Envelope·clocks}
 use Rattle.sid.specs.Sid.{readAt, ticks, codeOf, Call, write, read, tick, clear, potX, potY, after, ticksThen, clocksOf}
 use Rattle.sid.specs.declared.Mos6581.{Mos6581}
-use Rattle.sid.proofs.Calls.{after-join, after-ticks, count-ticks}
+use Rattle.sid.proofs.Joined.{after-join, after-ticks, count-ticks}
 use Rattle.calls.specs.Calls.{Which, of, Each, none, next, spares, floating, undriven, leavesOff, Leads, Fades, Floats}
 use Rattle.calls.proofs.Lifted.{envelope-after}
 

@@ -16,7 +16,7 @@ use Rattle.noise.proofs.Shows.{Shows, fresh-shows, stepped-shows, coupled-shows
 use Rattle.oscillator.specs.Oscillator.{fresh as Oscillator·fresh, clockedTone, clocked as Oscillator·clocked, comparedTone, evaluated, feedsBack, fedBackTone, fedBack, latchedTone, couples, pullsDown, coupledNoise, pulledNoise, latchedNoise, latchedCode, testedNoise, resetPhase, testedTone, written as Oscillator·written, synchronised as Oscillator·synchronised, voiced as Oscillator·voiced}
 use Rattle.oscillator.specs.declared.Control.{Control}
 use Rattle.oscillator.specs.declared.Tone.{Tone}
-use Rattle.sid.specs.Sid.{freshVoice, fresh, resetVoice, writtenVoice, clockedVoice, voiced, synchronisedIf, phaseOf, Call, called, after}
+use Rattle.sid.specs.Sid.{freshVoice, fresh, resetVoice, writtenEnvelope, writtenVoice, clockedVoice, voiced, synchronisedIf, phaseOf, Call, called, after}
 use Rattle.sid.specs.declared.Voice.{Voice}
 use Rattle.sid.specs.declared.Mos6581.{Mos6581}
 use Rattle.calls.specs.Calls.{Which, of, Sound}
@@ -33,7 +33,7 @@ unfolding gateSet targetRefreshed
 gate-zero e high h = either (λ (t : Bool). t ≡ true → e .volume ≡ 0) (high && not (e .gate .input)) _ _ (λ t. absurd (false≢true t)) h
 
 write-zero : (v : Voice) (r value : ℕ) → Zero (v .envelope) → Zero (writtenVoice v r value .envelope)
-unfolding writtenVoice attackDecaySet sustainReleaseSet targetRefreshed
+unfolding writtenVoice writtenEnvelope attackDecaySet sustainReleaseSet targetRefreshed
 write-zero v r value h =
     either Zero (eqb r 4) _ _ (gate-zero (v .envelope) _ h) (either Zero (eqb r 5) _ _ h (either Zero (eqb r 6) _ _ h h))
 

@@ -14,11 +14,11 @@ use Rattle.envelope.specs.Envelope.{clocked as Envelope·clocked, targetRefresh
 use Rattle.envelope.specs.declared.Envelope.{Envelope}
 use Rattle.oscillator.specs.Oscillator.{writtenControl, tuned, resetPhase, testedTone, written as Oscillator·written}
 use Rattle.oscillator.specs.declared.Oscillator.{Oscillator}
-use Rattle.sid.specs.Sid.{freshVoice, fresh, register, withBus, resetVoice, reset, writtenVoice, writtenTo, written, readDriven, readAt, withPotX, withPotY, clockedVoice, clocked, voiced, voiced0, voiced1, voiced2, synchronisedIf, synchronised, ticked, Call, write, read, tick, clear, potX, potY, called, after}
+use Rattle.sid.specs.Sid.{freshVoice, fresh, register, withBus, resetVoice, reset, writtenOscillator, writtenEnvelope, writtenVoice, writtenTo, written, readDriven, readAt, withPotX, withPotY, clockedVoice, clocked, voiced, voiced0, voiced1, voiced2, synchronisedIf, synchronised, ticked, Call, write, read, tick, clear, potX, potY, called, after}
 use Rattle.sid.specs.declared.Voice.{Voice}
 use Rattle.sid.specs.declared.Mos6581.{Mos6581}
 use Rattle.sid.specs.declared.Read.{Read}
-use Rattle.calls.specs.Calls.{Which, first, second, third, number, of, floating}
+use Rattle.calls.specs.Calls.{Which, voice-0, voice-1, voice-2, number, of, floating}
 
 -- ---- a tick
 
@@ -30,9 +30,9 @@ pub record Ticks (v u : Voice) : Type 0 where
 
 pub tick-voice : (w : Which) (c : Mos6581) → Ticks (of w c) (of w (ticked c))
 unfolding ticked synchronised voiced0 voiced1 voiced2 clocked
-tick-voice first c = record { modulator = _; taken = _; same = refl }
-tick-voice second c = record { modulator = _; taken = _; same = refl }
-tick-voice third c = record { modulator = _; taken = _; same = refl }
+tick-voice voice-0 c = record { modulator = _; taken = _; same = refl }
+tick-voice voice-1 c = record { modulator = _; taken = _; same = refl }
+tick-voice voice-2 c = record { modulator = _; taken = _; same = refl }
 
 pub sync-envelope
     : (taken : Bool) (v : Voice) (modulator : ℕ)
@@ -73,9 +73,9 @@ reads c address = read-any c (eqb (register address) 0x19) (eqb (register addres
 
 -- it changes no voice
 bus-voice : (w : Which) (c : Mos6581) (b : InternalDataBus) → of w (withBus c b) ≡ of w c
-bus-voice first c b = refl
-bus-voice second c b = refl
-bus-voice third c b = refl
+bus-voice voice-0 c b = refl
+bus-voice voice-1 c b = refl
+bus-voice voice-2 c b = refl
 
 pub read-voice : (w : Which) (c : Mos6581) (address : ℕ) → of w (readAt c address .chip) ≡ of w c
 unfolding readDriven
@@ -101,34 +101,34 @@ read-drives c address = go (reads c address)
     go floats h = absurd (true≢false h)
 
 pub pot-x-voice : (w : Which) (c : Mos6581) (value : ℕ) → of w (withPotX c value) ≡ of w c
-pot-x-voice first c value = refl
-pot-x-voice second c value = refl
-pot-x-voice third c value = refl
+pot-x-voice voice-0 c value = refl
+pot-x-voice voice-1 c value = refl
+pot-x-voice voice-2 c value = refl
 
 pub pot-y-voice : (w : Which) (c : Mos6581) (value : ℕ) → of w (withPotY c value) ≡ of w c
-pot-y-voice first c value = refl
-pot-y-voice second c value = refl
-pot-y-voice third c value = refl
+pot-y-voice voice-0 c value = refl
+pot-y-voice voice-1 c value = refl
+pot-y-voice voice-2 c value = refl
 
 pub reset-voice : (w : Which) (c : Mos6581) → of w (reset c) ≡ resetVoice (of w c)
 unfolding reset
-reset-voice first c = refl
-reset-voice second c = refl
-reset-voice third c = refl
+reset-voice voice-0 c = refl
+reset-voice voice-1 c = refl
+reset-voice voice-2 c = refl
 
 pub fresh-voice : (w : Which) → of w fresh ≡ freshVoice
 unfolding fresh
-fresh-voice first = refl
-fresh-voice second = refl
-fresh-voice third = refl
+fresh-voice voice-0 = refl
+fresh-voice voice-1 = refl
+fresh-voice voice-2 = refl
 
 -- ---- writes
 
 pub write-voice : (w : Which) (c : Mos6581) (address value : ℕ) → of w (written c address value) ≡ writtenTo (number w) (of w c) (register address) value
 unfolding written
-write-voice first c address value = refl
-write-voice second c address value = refl
-write-voice third c address value = refl
+write-voice voice-0 c address value = refl
+write-voice voice-1 c address value = refl
+write-voice voice-2 c address value = refl
 
 -- an oscillator is left as it is, or its frequency or pulse width is written, or its control register
 pub write-oscillator
@@ -137,7 +137,7 @@ pub write-oscillator
     → (eqb r 4 ≡ true → P (Oscillator·written (v .oscillator) value))
     → P (v .oscillator)
     → P (writtenVoice v r value .oscillator)
-unfolding writtenVoice
+unfolding writtenVoice writtenOscillator
 write-oscillator P v r value t k h =
     either P (eqb r 0) _ _ (t _ _)
     (either P (eqb r 1) _ _ (t _ _) (either P (eqb r 2) _ _ (t _ _) (either P (eqb r 3) _ _ (t _ _) (by-test P (eqb r 4) _ _ k (λ _. h)))))
@@ -170,7 +170,7 @@ oscillator-face v r value e =
     write-oscillator (λ o. faceOf o e ≡ faceOf (v .oscillator) e) v r value (λ _ _. refl) (λ _. control-face (v .oscillator) value e) refl
 
 envelope-face : (v : Voice) (r value : ℕ) (o : Oscillator) → faceOf o (writtenVoice v r value .envelope) ≡ faceOf o (v .envelope)
-unfolding writtenVoice gateSet attackDecaySet sustainReleaseSet targetRefreshed
+unfolding writtenVoice writtenEnvelope gateSet attackDecaySet sustainReleaseSet targetRefreshed
 envelope-face v r value o =
     let P : Envelope → Type 0 = λ x. faceOf o x ≡ faceOf o (v .envelope) in
     either P (eqb r 4) _ _ refl (either P (eqb r 5) _ _ refl (either P (eqb r 6) _ _ refl refl))
@@ -186,7 +186,7 @@ write-face w c address value =
 
 -- a write to another voice, or to this one's frequency or pulse width, leaves its envelope
 low-envelope : (v : Voice) (r value : ℕ) → r < 4 → writtenVoice v r value .envelope ≡ v .envelope
-unfolding writtenVoice
+unfolding writtenVoice writtenEnvelope
 low-envelope v r value h = simp (ne-eqb r 4 (λ e. omega arith), ne-eqb r 5 (λ e. omega arith), ne-eqb r 6 (λ e. omega arith))
 
 other-envelope : (n : ℕ) (v : Voice) (r value : ℕ) → (not (eqb (r / 7) n) || ltb (r % 7) 4) ≡ true → writtenTo n v r value .envelope ≡ v .envelope

@@ -23,25 +23,25 @@ use Rattle.sid.specs.declared.Mos6581.{Mos6581}
 
 -- the voices, so that a law is stated once for any of them
 pub data Which : Type 0 where
-  first : Which
-  second : Which
-  third : Which
+  voice-0 : Which
+  voice-1 : Which
+  voice-2 : Which
 
 abbrev pub number : Which → ℕ
-number first = 0
-number second = 1
-number third = 2
+number voice-0 = 0
+number voice-1 = 1
+number voice-2 = 2
 
 abbrev pub of : Which → Mos6581 → Voice
-of first c = c .«voice_0»
-of second c = c .«voice_1»
-of third c = c .«voice_2»
+of voice-0 c = c .«voice_0»
+of voice-1 c = c .«voice_1»
+of voice-2 c = c .«voice_2»
 
 -- the address of a voice's control register
 abbrev pub controlOf : Which → ℕ
-controlOf first = 0x04
-controlOf second = 0x0b
-controlOf third = 0x12
+controlOf voice-0 = 0x04
+controlOf voice-1 = 0x0b
+controlOf voice-2 = 0x12
 
 abbrev pub waveformOf : Voice → ℕ
 waveformOf v = v .oscillator .control .waveform
@@ -117,7 +117,7 @@ pub data Last : List Call → Type 0 where
 -- ---- what the laws say
 
 -- Demand 3 of a voice of a chip, for any calls that spare it: only the ticks among them count
-pub record Releases (w : Which) (c : Mos6581) (P : ℕ) : Type 0 where
+pub record ChipReleases (w : Which) (c : Mos6581) (P : ℕ) : Type 0 where
   -- 'a step down that needs S rate matches lands on clock …'
   pub lands
       : (k S D n : ℕ) (calls : List Call) → Needs (of w c .envelope) k S D → suc n ≡ landing (of w c .envelope .«rate_phase») P S D → Each (spares w) calls

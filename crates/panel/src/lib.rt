@@ -68,7 +68,7 @@ impl Panel {
         let clock = self.clock;
         if clock < stamp {
             let c = self.chip;
-            let chip = span::run(c, (stamp - clock) as u64);
+            let chip = run::run(c, (stamp - clock) as u64);
             return Panel { chip, clock: stamp };
         }
         self

@@ -21,8 +21,8 @@ use Rattle.score.specs.Scores.{good, scoreOf, clocksOf as Scores·clocksOf, Cha
 use Rattle.score.specs.Stamps.{admit}
 use Rattle.score.proofs.Chains.{score-chain}
 use Rattle.sid.specs.Sid.{fresh as Sid·fresh, Call, called, after, clocksOf}
-use Rattle.sid.proofs.Calls.{after-ticks, count-ticks}
-use Rattle.player.specs.Calls.{callThen, callsTo}
+use Rattle.sid.proofs.Joined.{after-ticks, count-ticks}
+use Rattle.player.specs.ScoreCalls.{callThen, callsTo}
 use Rattle.player.specs.Listing.{lineOf, doneBy, atStamp, play, played, listing}
 
 after-call : (f : Field) (calls : List Call) (p : Panel) → after (callThen f calls) (p .chip) ≡ after calls (doneBy f p .chip)

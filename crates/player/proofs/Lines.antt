@@ -9,7 +9,7 @@ use Rattle.score.specs.declared.Field.{Field}
 use Rattle.score.specs.declared.Field.the-variants.{Write, Read, Levels, End}
 use Rattle.score.specs.Fields.{stampOf}
 use Rattle.score.specs.Scores.{good, scoreOf}
-use Rattle.player.specs.Calls.{shownBy, Shows}
+use Rattle.player.specs.ScoreCalls.{shownBy, Shows}
 use Rattle.player.specs.Listing.{lineOf, doneBy, atStamp, play, played, listingOf, listing}
 use Rattle.player.proofs.Clocks.{stamp-clocks}
 

@@ -1,4 +1,4 @@
-pub mod Calls
 pub mod Into
 pub mod Listing
+pub mod ScoreCalls
 pub mod Steps

@@ -1,4 +1,4 @@
 pub mod Answers
-pub mod Calls
+pub mod Joined
 pub mod Ticks
 pub mod Turn

@@ -3,12 +3,14 @@
 use Prim.Native.Nat.{ℕ, zero, suc, _/_, _%_}
 use mathlib.Core.Bool.{Bool, cond, not, _&&_}
 use mathlib.Core.List.{List, [], _∷_}
-use lib.Dec.{eqb}
+use lib.Dec.{eqb, ltb}
 use Rattle.laws.specs.Times.{times}
 use Rattle.refusals.specs.Refusals.{numbered, Told as Refusals·Told, told as Refusals·told}
 use Rattle.bus.specs.Bus.{fresh as Bus·fresh, driven, clocked as Bus·clocked}
 use Rattle.bus.specs.declared.InternalDataBus.{InternalDataBus}
 use Rattle.envelope.specs.Envelope.{fresh as Envelope·fresh, reset as Envelope·reset, clocked as Envelope·clocked, attackDecaySet, sustainReleaseSet, gateSet}
+use Rattle.envelope.specs.declared.Envelope.{Envelope}
+use Rattle.oscillator.specs.declared.Oscillator.{Oscillator}
 use Rattle.oscillator.specs.Oscillator.{fresh as Oscillator·fresh, clocked as Oscillator·clocked, voiced as Oscillator·voiced, written as Oscillator·written, writtenFrequencyLo, writtenFrequencyHi, writtenPulseWidthLo, writtenPulseWidthHi, readOutput, synchronised as Oscillator·synchronised}
 use Rattle.sid.specs.declared.Voice.{Voice}
 use Rattle.sid.specs.declared.Mos6581.{Mos6581}
@@ -43,19 +45,26 @@ reset c = record {
 abbrev pub register : ℕ → ℕ
 register address = address % 32
 
--- a voice's frequency, pulse width, control, attack and decay, sustain and release (write, write_voice_control)
+-- a voice's frequency, pulse width and control, of its seven registers (write, write_voice_control)
+unfoldable pub writtenOscillator : Oscillator → ℕ → ℕ → Oscillator
+writtenOscillator o register value =
+    cond (eqb register 0) (writtenFrequencyLo o value)
+    (cond (eqb register 1) (writtenFrequencyHi o value)
+    (cond (eqb register 2) (writtenPulseWidthLo o value)
+    (cond (eqb register 3) (writtenPulseWidthHi o value)
+    (cond (eqb register 4) (Oscillator·written o value) o))))
+
+-- its control's gate, attack and decay, sustain and release (write, write_voice_control)
+unfoldable pub writtenEnvelope : Envelope → ℕ → ℕ → Envelope
+writtenEnvelope e register value =
+    cond (eqb register 4) (gateSet e (not (eqb (value % 2) 0)))
+    (cond (eqb register 5) (attackDecaySet e value)
+    (cond (eqb register 6) (sustainReleaseSet e value) e))
+
 unfoldable pub writtenVoice : Voice → ℕ → ℕ → Voice
 writtenVoice v register value = record {
-  oscillator =
-      cond (eqb register 0) (writtenFrequencyLo (v .oscillator) value)
-      (cond (eqb register 1) (writtenFrequencyHi (v .oscillator) value)
-      (cond (eqb register 2) (writtenPulseWidthLo (v .oscillator) value)
-      (cond (eqb register 3) (writtenPulseWidthHi (v .oscillator) value)
-      (cond (eqb register 4) (Oscillator·written (v .oscillator) value) (v .oscillator)))));
-  envelope =
-      cond (eqb register 4) (gateSet (v .envelope) (not (eqb (value % 2) 0)))
-      (cond (eqb register 5) (attackDecaySet (v .envelope) value)
-      (cond (eqb register 6) (sustainReleaseSet (v .envelope) value) (v .envelope)));
+  oscillator = writtenOscillator (v .oscillator) register value;
+  envelope = writtenEnvelope (v .envelope) register value;
 }
 
 -- voice n, after a write that may be another's
@@ -192,10 +201,13 @@ told (Level x) = level x
 told (Held x) = held x
 told (Refused r) = refused (Refusals·told r)
 
+-- the voice of a number; none above 2 is asked for
+unfoldable pub voiceOf : Mos6581 → ℕ → Voice
+voiceOf c n = cond (eqb n 0) (c .«voice_0») (cond (eqb n 1) (c .«voice_1») (c .«voice_2»))
+
 -- 3, 'voice number above 2', at 0
 unfoldable pub named : Mos6581 → ℕ → (Voice → Told) → Told
-named c n give =
-    cond (eqb n 0) (give (c .«voice_0»)) (cond (eqb n 1) (give (c .«voice_1»)) (cond (eqb n 2) (give (c .«voice_2»)) (refused (numbered 3 0))))
+named c n give = cond (ltb 2 n) (refused (numbered 3 0)) (give (voiceOf c n))
 
 -- ---- any run of calls
 

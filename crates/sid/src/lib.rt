@@ -1,5 +1,5 @@
 // The chip without filter and converter (document 01; sid.rs): register decode, reads, resets, synchronisation. Crates
-// `clock` and `span` tick it.
+// `tick` and `run` tick it.
 use bus::InternalDataBus;
 use envelope::Envelope;
 use oscillator::Control;
@@ -10,7 +10,8 @@ use refusals::Refused;
 ghost use mathlib.Core.Path.{_≡_};
 ghost use mathlib.Core.Bool.{cond};
 ghost use Rattle.oscillator.specs.Oscillator.{resetPhase};
-ghost use Rattle.sid.specs.Sid.{freshVoice, fresh, resetVoice, reset, writtenVoice, writtenTo, written, readDriven, readAt, withPotX, withPotY, syncs, codeOf, levelOf, heldOf, code, level, held, told, named};
+ghost use Rattle.refusals.specs.Refusals.{numbered};
+ghost use Rattle.sid.specs.Sid.{freshVoice, fresh, resetVoice, reset, writtenOscillator, writtenEnvelope, writtenVoice, writtenTo, written, readDriven, readAt, withPotX, withPotY, syncs, codeOf, levelOf, heldOf, code, level, held, refused, told, voiceOf, named};
 
 pub struct Voice {
     pub oscillator: Oscillator,
@@ -41,6 +42,31 @@ pub enum Answer {
 
 const POT_RESET_VALUE: u8 = 0xff;
 
+// The voices' arms of the Rust's `write`, with `write_voice_control`: what reaches the oscillator, and what the envelope.
+fn write_oscillator(o: Oscillator, register: u8, value: u8) -> Oscillator
+    ensures { λ r. ⌜ r ≡ writtenOscillator o register value ⌝ }
+{
+    match register {
+        0 => o.write_frequency_lo(value),
+        1 => o.write_frequency_hi(value),
+        2 => o.write_pulse_width_lo(value),
+        3 => o.write_pulse_width_hi(value),
+        4 => o.write_control(value),
+        _ => o,
+    }
+}
+
+fn write_envelope(e: Envelope, register: u8, value: u8) -> Envelope
+    ensures { λ r. ⌜ r ≡ writtenEnvelope e register value ⌝ }
+{
+    match register {
+        4 => e.set_gate(value % 2 != 0),
+        5 => e.set_attack_decay(value),
+        6 => e.set_sustain_release(value),
+        _ => e,
+    }
+}
+
 impl Voice {
     fn new() -> Voice
         ensures { λ r. ⌜ r ≡ freshVoice ⌝ }
@@ -66,64 +92,16 @@ impl Voice {
         }
     }
 
-    // The voices' arms of the Rust's `write`, with `write_voice_control`.
     fn write(self, register: u8, value: u8) -> Voice
         ensures { λ r. ⌜ r ≡ writtenVoice self register value ⌝ }
     {
         let o = self.oscillator;
         let e = self.envelope;
-        match register {
-            0 => {
-                let oscillator = o.write_frequency_lo(value);
-                Voice {
-                    oscillator,
-                    envelope: e,
-                }
-            }
-            1 => {
-                let oscillator = o.write_frequency_hi(value);
-                Voice {
-                    oscillator,
-                    envelope: e,
-                }
-            }
-            2 => {
-                let oscillator = o.write_pulse_width_lo(value);
-                Voice {
-                    oscillator,
-                    envelope: e,
-                }
-            }
-            3 => {
-                let oscillator = o.write_pulse_width_hi(value);
-                Voice {
-                    oscillator,
-                    envelope: e,
-                }
-            }
-            4 => {
-                let oscillator = o.write_control(value);
-                let envelope = e.set_gate(value % 2 != 0);
-                Voice {
-                    oscillator,
-                    envelope,
-                }
-            }
-            5 => {
-                let envelope = e.set_attack_decay(value);
-                Voice {
-                    oscillator: o,
-                    envelope,
-                }
-            }
-            6 => {
-                let envelope = e.set_sustain_release(value);
-                Voice {
-                    oscillator: o,
-                    envelope,
-                }
-            }
-            _ => self,
+        let oscillator = write_oscillator(o, register, value);
+        let envelope = write_envelope(e, register, value);
+        Voice {
+            oscillator,
+            envelope,
         }
     }
 
@@ -186,6 +164,15 @@ pub fn synced(
         return tone;
     }
     tone
+}
+
+fn no_voice() -> Answer
+    ensures { λ r. ⌜ told r ≡ refused (numbered 3 0) ⌝ }
+{
+    Answer::Refused(Refused {
+        why: Refusal::VoiceNumber,
+        place: 0,
+    })
 }
 
 impl Mos6581 {
@@ -301,55 +288,47 @@ impl Mos6581 {
         chip
     }
 
-    // Its code, the last latched.
-    pub fn code(self, voice: u8) -> Answer
-        ensures { λ r. ⌜ told r ≡ named self voice (λ v. code (codeOf v)) ⌝ }
+    fn voice(self, number: u8) -> Voice
+        ensures { λ r. ⌜ r ≡ voiceOf self number ⌝ }
     {
         let v = self.voice_0;
         let w = self.voice_1;
         let x = self.voice_2;
-        match voice {
-            0 => Answer::Code { code: v.code() },
-            1 => Answer::Code { code: w.code() },
-            2 => Answer::Code { code: x.code() },
-            _ => Answer::Refused(Refused {
-                why: Refusal::VoiceNumber,
-                place: 0,
-            }),
+        match number {
+            0 => v,
+            1 => w,
+            _ => x,
         }
+    }
+
+    // Its code, the last latched.
+    pub fn code(self, voice: u8) -> Answer
+        ensures { λ r. ⌜ told r ≡ named self voice (λ v. code (codeOf v)) ⌝ }
+    {
+        if 2 < voice {
+            return no_voice();
+        }
+        let v = self.voice(voice);
+        Answer::Code { code: v.code() }
     }
 
     pub fn level(self, voice: u8) -> Answer
         ensures { λ r. ⌜ told r ≡ named self voice (λ v. level (levelOf v)) ⌝ }
     {
-        let v = self.voice_0;
-        let w = self.voice_1;
-        let x = self.voice_2;
-        match voice {
-            0 => Answer::Level { level: v.level() },
-            1 => Answer::Level { level: w.level() },
-            2 => Answer::Level { level: x.level() },
-            _ => Answer::Refused(Refused {
-                why: Refusal::VoiceNumber,
-                place: 0,
-            }),
+        if 2 < voice {
+            return no_voice();
         }
+        let v = self.voice(voice);
+        Answer::Level { level: v.level() }
     }
 
     pub fn held(self, voice: u8) -> Answer
         ensures { λ r. ⌜ told r ≡ named self voice (λ v. held (heldOf v)) ⌝ }
     {
-        let v = self.voice_0;
-        let w = self.voice_1;
-        let x = self.voice_2;
-        match voice {
-            0 => Answer::Held { held: v.held() },
-            1 => Answer::Held { held: w.held() },
-            2 => Answer::Held { held: x.held() },
-            _ => Answer::Refused(Refused {
-                why: Refusal::VoiceNumber,
-                place: 0,
-            }),
+        if 2 < voice {
+            return no_voice();
         }
+        let v = self.voice(voice);
+        Answer::Held { held: v.held() }
     }
 }

@@ -36,7 +36,7 @@ fn ticked(before: Mos6581, clocks: u32) -> Answered {
     let mut answer: u64 = 1;
     let mut left = clocks;
     while 0 < left {
-        let t = clock::tick(chip);
+        let t = tick::tick(chip);
         let next = t.chip;
         chip = next;
         let code = codes(t.code_0, t.code_1, t.code_2);
@@ -53,7 +53,7 @@ fn watched(before: Mos6581, address: u16, clocks: u32) -> Answered {
     let mut answer: u64 = 1;
     let mut left = clocks;
     while 0 < left {
-        let t = clock::tick(chip);
+        let t = tick::tick(chip);
         let next = t.chip;
         let code = codes(t.code_0, t.code_1, t.code_2);
         let level = levels(t.level_0, t.level_1, t.level_2);
@@ -80,7 +80,7 @@ fn told(answer: Answer) -> u64 {
 
 // The chip is run so many clocks; its codes and levels after them.
 fn run(before: Mos6581, clocks: u32) -> Answered {
-    let chip = span::run(before, clocks as u64);
+    let chip = run::run(before, clocks as u64);
     let code = told(chip.code(0)) | (told(chip.code(1)) << 12) | (told(chip.code(2)) << 24);
     let level = (told(chip.level(0)) << 36)
         | (told(chip.level(1)) << 44)

@@ -4,7 +4,7 @@ use Prim.Native.Nat.{_-_, _≤_}
 use mathlib.Core.Path.{_≡_, refl}
 use Rattle.laws.specs.Times.{times}
 use Rattle.laws.proofs.Loops.{ended}
-use Rattle.clock.specs.Clock.{outputs}
+use Rattle.tick.specs.Outputs.{outputs}
 use Rattle.sid.specs.Sid.{ticks}
 use Rattle.bench.specs.Bench.{heard, scene, summed}
 use borrow.Author.Needs.{needs}

@@ -38,9 +38,11 @@ pub fn run(chip: Mos6581, n: u64) -> Mos6581
     let mut envelope_2 = chip.voice_2.envelope;
     let mut i: u64 = 0;
     while i < n {
+        // the bus
         if data_bus.value != 0 {
             data_bus = bus::lent_clock(data_bus);
         }
+        // three phases, with the noise registers that they clock
         let old_0 = tone_0.accumulator;
         tone_0 = tone_0.clocked(control_0);
         let cycle_0 = tone_0.cycle;
@@ -80,6 +82,7 @@ pub fn run(chip: Mos6581, n: u64) -> Mos6581
                 &mut charge_2,
             );
         }
+        // three envelopes
         if envelope_0.quiescent() {
             envelope_0 = envelope_0.clock_quiet();
         } else {
@@ -95,6 +98,7 @@ pub fn run(chip: Mos6581, n: u64) -> Mos6581
         } else {
             envelope_2 = envelope_2.clock();
         }
+        // the voices in ring order: code, feedback, latch
         if control_0.sample_due(floating_0, cycle_0) {
             floating_0 = floating_0.sample_lent(cycle_0, &mut lines_0);
         }
@@ -152,6 +156,7 @@ pub fn run(chip: Mos6581, n: u64) -> Mos6581
         if control_2.pulls_down(noise_2, cycle_2) {
             noise_2 = noise_2.pull_down_lent(code_2, cycle_2, &mut captured_2, &mut charge_2);
         }
+        // synchronisation
         let next_1 = sid::synced(tone_1, control_1, tone_0, control_0, tone_2);
         let next_2 = sid::synced(tone_2, control_2, tone_1, control_1, tone_0);
         tone_0 = sid::synced(tone_0, control_0, tone_2, control_2, tone_1);
@@ -164,7 +169,7 @@ pub fn run(chip: Mos6581, n: u64) -> Mos6581
         captured_charge: captured_0,
         charge: charge_0,
     };
-    let bus = FloatingBus {
+    let floats = FloatingBus {
         numbers: floating_0,
         charge: lines_0,
     };
@@ -172,7 +177,7 @@ pub fn run(chip: Mos6581, n: u64) -> Mos6581
         control: control_0,
         tone: tone_0,
         noise,
-        bus,
+        bus: floats,
     };
     let voice_0 = Voice {
         oscillator,
@@ -183,7 +188,7 @@ pub fn run(chip: Mos6581, n: u64) -> Mos6581
         captured_charge: captured_1,
         charge: charge_1,
     };
-    let bus = FloatingBus {
+    let floats = FloatingBus {
         numbers: floating_1,
         charge: lines_1,
     };
@@ -191,7 +196,7 @@ pub fn run(chip: Mos6581, n: u64) -> Mos6581
         control: control_1,
         tone: tone_1,
         noise,
-        bus,
+        bus: floats,
     };
     let voice_1 = Voice {
         oscillator,
@@ -202,7 +207,7 @@ pub fn run(chip: Mos6581, n: u64) -> Mos6581
         captured_charge: captured_2,
         charge: charge_2,
     };
-    let bus = FloatingBus {
+    let floats = FloatingBus {
         numbers: floating_2,
         charge: lines_2,
     };
@@ -210,7 +215,7 @@ pub fn run(chip: Mos6581, n: u64) -> Mos6581
         control: control_2,
         tone: tone_2,
         noise,
-        bus,
+        bus: floats,
     };
     let voice_2 = Voice {
         oscillator,

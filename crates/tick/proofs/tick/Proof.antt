@@ -4,12 +4,12 @@ use Rattle.sid.proofs.Ticks.{same-generator, same-lines}
 use Rattle.sid.proofs.Turn.{fades, empty, turn, round}
 use Rattle.laws.proofs.After.{taken, left}
 use Rattle.sid.specs.declared.Mos6581.{Mos6581}
-use Rattle.clock.specs.Clock.{outputs}
+use Rattle.tick.specs.Outputs.{outputs}
 use mathlib.Core.Logic.{⊎-elim}
 use mathlib.Core.Path.{_∙_, ap}
 use borrow.Author.Needs.{needs}
-use Rattle.clock.proofs.tick.Statement.{statement}
-use Rattle.clock.proofs.tick.Tie as tie
+use Rattle.tick.proofs.tick.Statement.{statement}
+use Rattle.tick.proofs.tick.Tie as tie
 
 returns : tie.Need-returns
 unfolding outputs

@@ -14,8 +14,8 @@ use mathlib.Core.Path.{_∙_, _≡_, ap, refl}
 use native.Mathlib.Numerals.{add-one}
 use native.Mathlib.Omega.{arith}
 use borrow.Author.Needs.{needs}
-use Rattle.span.proofs.run.Statement.{statement}
-use Rattle.span.proofs.run.Tie as tie
+use Rattle.run.proofs.run.Statement.{statement}
+use Rattle.run.proofs.run.Tie as tie
 
 abbrev Inv-loop : tie.InvT-loop
 Inv-loop c n _ k0 _ _ _ _ _ _ _ k1 _ _ _ _ _ _ _ k2 _ _ _ _ _ _ _ _ b t0 n0 h0 q0 f0 w0 e0 t1 n1 h1 q1 f1 w1 e1 t2 n2 h2 q2 f2 w2 e2 i =

@@ -1,5 +1,5 @@
 -- What a tick gives: document 01, 'Added by the port'.
-use Rattle.clock.specs.declared.Ticked.{Ticked}
+use Rattle.tick.specs.declared.Ticked.{Ticked}
 use Rattle.sid.specs.Sid.{codeOf, levelOf}
 use Rattle.sid.specs.declared.Mos6581.{Mos6581}
 

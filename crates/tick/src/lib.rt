@@ -7,7 +7,7 @@ use sid::Mos6581;
 use sid::Voice;
 ghost use mathlib.Core.Path.{_≡_};
 ghost use Rattle.sid.specs.Sid.{ticked};
-ghost use Rattle.clock.specs.Clock.{outputs};
+ghost use Rattle.tick.specs.Outputs.{outputs};
 
 // What a tick gives: the chip after it, the codes and the levels of its voices.
 pub struct Ticked {
@@ -48,9 +48,11 @@ pub fn tick(chip: Mos6581) -> Ticked
     let mut floating_2 = chip.voice_2.oscillator.bus.numbers;
     let mut lines_2 = chip.voice_2.oscillator.bus.charge;
     let mut envelope_2 = chip.voice_2.envelope;
+    // the bus
     if data_bus.value != 0 {
         data_bus = bus::lent_clock(data_bus);
     }
+    // three phases, with the noise registers that they clock
     let old_0 = tone_0.accumulator;
     tone_0 = tone_0.clocked(control_0);
     let cycle_0 = tone_0.cycle;
@@ -90,6 +92,7 @@ pub fn tick(chip: Mos6581) -> Ticked
             &mut charge_2,
         );
     }
+    // three envelopes
     if envelope_0.quiescent() {
         envelope_0 = envelope_0.clock_quiet();
     } else {
@@ -105,6 +108,7 @@ pub fn tick(chip: Mos6581) -> Ticked
     } else {
         envelope_2 = envelope_2.clock();
     }
+    // the voices in ring order: code, feedback, latch
     if control_0.sample_due(floating_0, cycle_0) {
         floating_0 = floating_0.sample_lent(cycle_0, &mut lines_0);
     }
@@ -162,6 +166,7 @@ pub fn tick(chip: Mos6581) -> Ticked
     if control_2.pulls_down(noise_2, cycle_2) {
         noise_2 = noise_2.pull_down_lent(code_2, cycle_2, &mut captured_2, &mut charge_2);
     }
+    // synchronisation
     let next_1 = sid::synced(tone_1, control_1, tone_0, control_0, tone_2);
     let next_2 = sid::synced(tone_2, control_2, tone_1, control_1, tone_0);
     tone_0 = sid::synced(tone_0, control_0, tone_2, control_2, tone_1);
@@ -172,7 +177,7 @@ pub fn tick(chip: Mos6581) -> Ticked
         captured_charge: captured_0,
         charge: charge_0,
     };
-    let bus = FloatingBus {
+    let floats = FloatingBus {
         numbers: floating_0,
         charge: lines_0,
     };
@@ -180,7 +185,7 @@ pub fn tick(chip: Mos6581) -> Ticked
         control: control_0,
         tone: tone_0,
         noise,
-        bus,
+        bus: floats,
     };
     let voice_0 = Voice {
         oscillator,
@@ -191,7 +196,7 @@ pub fn tick(chip: Mos6581) -> Ticked
         captured_charge: captured_1,
         charge: charge_1,
     };
-    let bus = FloatingBus {
+    let floats = FloatingBus {
         numbers: floating_1,
         charge: lines_1,
     };
@@ -199,7 +204,7 @@ pub fn tick(chip: Mos6581) -> Ticked
         control: control_1,
         tone: tone_1,
         noise,
-        bus,
+        bus: floats,
     };
     let voice_1 = Voice {
         oscillator,
@@ -210,7 +215,7 @@ pub fn tick(chip: Mos6581) -> Ticked
         captured_charge: captured_2,
         charge: charge_2,
     };
-    let bus = FloatingBus {
+    let floats = FloatingBus {
         numbers: floating_2,
         charge: lines_2,
     };
@@ -218,7 +223,7 @@ pub fn tick(chip: Mos6581) -> Ticked
         control: control_2,
         tone: tone_2,
         noise,
-        bus,
+        bus: floats,
     };
     let voice_2 = Voice {
         oscillator,
