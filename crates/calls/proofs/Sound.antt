@@ -49,12 +49,12 @@ latched-shows g k output cycle h =
     let coupling = either Shows (couples k) _ _ (coupled-shows g output h) h in
     either Shows (pullsDown k _ cycle) _ _ (pulled-shows _ output cycle) coupling
 
-tested-shows : (g : NoiseGenerator) (old new : Control) (t : Tone) → Shows g → Shows (testedNoise g old new t)
+tested-shows : (g : NoiseGenerator) (old new : Control) (last cycle : ℕ) → Shows g → Shows (testedNoise g old new last cycle)
 unfolding testedNoise
-tested-shows g old new t h =
+tested-shows g old new last cycle h =
     either Shows (old .«test_enabled») _ _
-    (either Shows (new .«test_enabled») _ _ h (left-shows _ (t .cycle)))
-    (either Shows (new .«test_enabled») _ _ (entered-shows g (t .cycle) h) h)
+    (either Shows (new .«test_enabled») _ _ h (left-shows _ cycle))
+    (either Shows (new .«test_enabled») _ _ (entered-shows g cycle h) h)
 
 tick-shows
     : (v : Voice) (modulator : ℕ) (taken : Bool)
@@ -66,7 +66,7 @@ tick-shows v modulator false h = latched-shows _ (v .oscillator .control) _ _ (s
 
 write-shows : (v : Voice) (r value : ℕ) → Shows (v .oscillator .noise) → Shows (writtenVoice v r value .oscillator .noise)
 unfolding Oscillator·written
-write-shows v r value h = write-oscillator (λ o. Shows (o .noise)) v r value (λ _ _. h) (λ _. tested-shows (v .oscillator .noise) _ _ _ h) h
+write-shows v r value h = write-oscillator (λ o. Shows (o .noise)) v r value (λ _ _. h) (λ _. tested-shows (v .oscillator .noise) _ _ _ _ h) h
 
 -- ---- the phase has 24 bits
 

@@ -436,34 +436,29 @@ impl NoiseGenerator {
     pub fn clock(self, rising_bits: u32, cycle: u64) -> NoiseGenerator
         ensures { λ r. ⌜ r ≡ clocked self «rising_bits» cycle ⌝ }
     {
-        let n = self.numbers;
-        if n.captures(rising_bits) {
-            let numbers = n.capture(cycle);
-            let charge = self.charge;
-            return NoiseGenerator {
-                numbers,
-                captured_charge: charge,
-                charge,
-            };
+        let before = self.numbers;
+        let mut captured_charge = self.captured_charge;
+        let mut charge = self.charge;
+        let numbers = before.clock_lent(rising_bits, cycle, &mut captured_charge, &mut charge);
+        NoiseGenerator {
+            numbers,
+            captured_charge,
+            charge,
         }
-        self
     }
 
     pub fn execute_transfer(self, cycle: u64) -> NoiseGenerator
         ensures { λ r. ⌜ r ≡ transferred self cycle ⌝ }
     {
-        let n = self.numbers;
-        if n.transfers(cycle) {
-            let captured_charge = self.captured_charge;
-            let charge = shifted_charge(captured_charge, n.incoming());
-            let numbers = n.shift();
-            return NoiseGenerator {
-                numbers,
-                captured_charge,
-                charge,
-            };
+        let before = self.numbers;
+        let mut captured_charge = self.captured_charge;
+        let mut charge = self.charge;
+        let numbers = before.execute_transfer_lent(cycle, &mut captured_charge, &mut charge);
+        NoiseGenerator {
+            numbers,
+            captured_charge,
+            charge,
         }
-        self
     }
 
     pub fn relax(self, cycle: u64) -> NoiseGenerator
@@ -586,11 +581,15 @@ impl NoiseGenerator {
     pub fn step(self, test: bool, rising_bits: u32, cycle: u64) -> NoiseGenerator
         ensures { λ r. ⌜ r ≡ stepped self test «rising_bits» cycle ⌝ }
     {
-        if test {
-            return self.relax(cycle);
+        let before = self.numbers;
+        let mut captured_charge = self.captured_charge;
+        let mut charge = self.charge;
+        let numbers = before.step_lent(test, rising_bits, cycle, &mut captured_charge, &mut charge);
+        NoiseGenerator {
+            numbers,
+            captured_charge,
+            charge,
         }
-        let shifted = self.execute_transfer(cycle);
-        shifted.clock(rising_bits, cycle)
     }
 }
 

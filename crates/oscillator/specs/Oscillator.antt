@@ -205,25 +205,25 @@ writtenControl c value = record {
 
 -- then the floating lines: they capture where waveform 0 is selected from another, and are reset where another is.
 -- Old and new are compared as they stand, not by their low four bits (write_control)
-unfoldable pub writtenBus : FloatingBus → ℕ → ℕ → Tone → FloatingBus
-writtenBus b old new t = cond (eqb old new) b (cond (eqb new 0) (captured (t .«last_sample») (t .cycle)) Floating·fresh)
+unfoldable pub writtenBus : FloatingBus → ℕ → ℕ → ℕ → ℕ → FloatingBus
+writtenBus b old new last cycle = cond (eqb old new) b (cond (eqb new 0) (captured last cycle) Floating·fresh)
 
 -- as test is left, drivers that stay connected load the register with the last code; pulse does so where triangle or
 -- saw was connected, and holds all but the three lowest noise lines high (write_control;
 -- NOISE_PULSE_TRANSFER_RETAINED_LINES)
-unfoldable pub exitLoaded : NoiseGenerator → ℕ → ℕ → Tone → NoiseGenerator
-exitLoaded g old drivers t =
+unfoldable pub exitLoaded : NoiseGenerator → ℕ → ℕ → ℕ → ℕ → NoiseGenerator
+exitLoaded g old drivers last cycle =
     cond (eqb (bitAnd drivers 8) 0) g
     (cond (eqb (bitAnd drivers 3) 0)
-    (cond (eqb (bitAnd drivers 4) 0) g (cond (eqb (bitAnd old 3) 0) g (pulledDown g (bitOr (t .«last_sample») 0xf8f) (t .cycle))))
-    (pulledDown g (t .«last_sample») (t .cycle)))
+    (cond (eqb (bitAnd drivers 4) 0) g (cond (eqb (bitAnd old 3) 0) g (pulledDown g (bitOr last 0xf8f) cycle)))
+    (pulledDown g last cycle))
 
 -- then the noise register: test is left, or entered, or neither (write_control)
-unfoldable pub testedNoise : NoiseGenerator → Control → Control → Tone → NoiseGenerator
-testedNoise g old new t =
+unfoldable pub testedNoise : NoiseGenerator → Control → Control → ℕ → ℕ → NoiseGenerator
+testedNoise g old new last cycle =
     cond (old .«test_enabled»)
-    (cond (new .«test_enabled») g (leftTest (exitLoaded g (old .waveform) (bitAnd (old .waveform) (new .waveform)) t) (t .cycle)))
-    (cond (new .«test_enabled») (enteredTest g (t .cycle)) g)
+    (cond (new .«test_enabled») g (leftTest (exitLoaded g (old .waveform) (bitAnd (old .waveform) (new .waveform)) last cycle) cycle))
+    (cond (new .«test_enabled») (enteredTest g cycle) g)
 
 -- phase and rising mark are cleared, and nothing else (reset_phase)
 unfoldable pub resetPhase : Tone → Tone
@@ -245,8 +245,8 @@ unfoldable pub written : Oscillator → ℕ → Oscillator
 written o value = record {
   control = writtenControl (o .control) value;
   tone = testedTone (o .tone) (o .control .«test_enabled») (writtenControl (o .control) value .«test_enabled»);
-  noise = testedNoise (o .noise) (o .control) (writtenControl (o .control) value) (o .tone);
-  bus = writtenBus (o .bus) (o .control .waveform) (writtenControl (o .control) value .waveform) (o .tone);
+  noise = testedNoise (o .noise) (o .control) (writtenControl (o .control) value) (o .tone .«last_sample») (o .tone .cycle);
+  bus = writtenBus (o .bus) (o .control .waveform) (writtenControl (o .control) value .waveform) (o .tone .«last_sample») (o .tone .cycle);
 }
 
 -- ---- the registers of frequency and pulse width (write_frequency_lo, write_frequency_hi, write_pulse_width_lo,

@@ -412,14 +412,14 @@ fn sampled_bus(bus: FloatingBus, control: Control, cycle: u64) -> FloatingBus
 }
 
 // The floating lines in `write_control`.
-fn written_bus(bus: FloatingBus, old_wave: u8, new_wave: u8, tone: Tone) -> FloatingBus
-    ensures { λ r. ⌜ r ≡ writtenBus bus «old_wave» «new_wave» tone ⌝ }
+fn written_bus(bus: FloatingBus, old_wave: u8, new_wave: u8, last: u16, cycle: u64) -> FloatingBus
+    ensures { λ r. ⌜ r ≡ writtenBus bus «old_wave» «new_wave» last cycle ⌝ }
 {
     if old_wave == new_wave {
         return bus;
     }
     if new_wave == 0 {
-        return FloatingBus::capture(tone.last_sample, tone.cycle);
+        return FloatingBus::capture(last, cycle);
     }
     FloatingBus::reset()
 }
@@ -429,9 +429,10 @@ fn exit_loaded(
     noise: NoiseGenerator,
     old_wave: u8,
     continuous_drivers: u8,
-    tone: Tone,
+    last: u16,
+    cycle: u64,
 ) -> NoiseGenerator
-    ensures { λ r. ⌜ r ≡ exitLoaded noise «old_wave» «continuous_drivers» tone ⌝ }
+    ensures { λ r. ⌜ r ≡ exitLoaded noise «old_wave» «continuous_drivers» last cycle ⌝ }
 {
     if continuous_drivers & 8 == 0 {
         return noise;
@@ -443,26 +444,35 @@ fn exit_loaded(
         if old_wave & 3 == 0 {
             return noise;
         }
-        return noise.pull_down(
-            tone.last_sample | NOISE_PULSE_TRANSFER_RETAINED_LINES,
-            tone.cycle,
-        );
+        return noise.pull_down(last | NOISE_PULSE_TRANSFER_RETAINED_LINES, cycle);
     }
-    noise.pull_down(tone.last_sample, tone.cycle)
+    noise.pull_down(last, cycle)
 }
 
-fn tested_noise(noise: NoiseGenerator, old: Control, new: Control, tone: Tone) -> NoiseGenerator
-    ensures { λ r. ⌜ r ≡ testedNoise noise old new tone ⌝ }
+fn tested_noise(
+    noise: NoiseGenerator,
+    old: Control,
+    new: Control,
+    last: u16,
+    cycle: u64,
+) -> NoiseGenerator
+    ensures { λ r. ⌜ r ≡ testedNoise noise old new last cycle ⌝ }
 {
     if old.test_enabled {
         if new.test_enabled {
             return noise;
         }
-        let loaded = exit_loaded(noise, old.waveform, old.waveform & new.waveform, tone);
-        return loaded.leave_test(tone.cycle);
+        let loaded = exit_loaded(
+            noise,
+            old.waveform,
+            old.waveform & new.waveform,
+            last,
+            cycle,
+        );
+        return loaded.leave_test(cycle);
     }
     if new.test_enabled {
-        return noise.enter_test(tone.cycle);
+        return noise.enter_test(cycle);
     }
     noise
 }
@@ -602,9 +612,11 @@ impl Oscillator {
         let old_noise = self.noise;
         let old_bus = self.bus;
         let control = old.written(value);
-        let bus = written_bus(old_bus, old.waveform, control.waveform, before);
+        let last = before.last_sample;
+        let cycle = before.cycle;
+        let bus = written_bus(old_bus, old.waveform, control.waveform, last, cycle);
         let tone = before.tested(old.test_enabled, control.test_enabled);
-        let noise = tested_noise(old_noise, old, control, before);
+        let noise = tested_noise(old_noise, old, control, last, cycle);
         Oscillator {
             control,
             tone,

@@ -19,7 +19,7 @@ returns-3 c = simp (ne-eqb _ _ (c .before .before .before .if1 .left), eq-eqb _ 
 
 returns-4 : tie.Need-returns-4
 unfolding exitLoaded
-returns-4 c = simp (ne-eqb _ _ (c .before .before .before .before .before .if1 .left), eq-eqb _ _ (c .before .before .before .before .if2 .taken), ne-eqb _ _ (c .before .before .before .if3 .left), ne-eqb _ _ (c .before .before .if4 .left), c .pull-down .ensures)
+returns-4 c = simp (ne-eqb _ _ (c .before .before .before .before .if1 .left), eq-eqb _ _ (c .before .before .before .if2 .taken), ne-eqb _ _ (c .before .before .if3 .left), ne-eqb _ _ (c .before .if4 .left), c .pull-down .ensures)
 
 returns-5 : tie.Need-returns-5
 unfolding exitLoaded
