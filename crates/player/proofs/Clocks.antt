@@ -1,17 +1,13 @@
 -- A field of an accepted score meets a fresh chip after as many ticks as its stamp says, all counted. Assumes nothing.
-use Prim.Native.Nat.{ℕ, _+_, _-_, _≤_}
+use Prim.Native.Nat.{ℕ, _+_, _-_}
 use native.Mathlib.Omega.{arith}
 use mathlib.Core.Bool.{true}
 use mathlib.Core.List.{List, [], _∷_, _++_, append-nil, append-assoc}
 use mathlib.Core.Path.{_≡_, refl, ap, sym, subst, _∙_}
-use lib.Dec.{ltb}
 use lib.ListN.{length, length-append}
-use borrow.Author.Tests.{ltb-false}
-use Rattle.laws.proofs.Cond.{by-test}
 use Rattle.listing.specs.Text.{endLine}
 use Rattle.panel.specs.declared.Panel.{Panel}
 use Rattle.panel.specs.Panel.{fresh, ranTo, readOf}
-use Rattle.score.specs.declared.Admitted.{Admitted}
 use Rattle.score.specs.declared.Admitted.the-variants.{Next}
 use Rattle.score.specs.declared.Field.{Field}
 use Rattle.score.specs.declared.Order.{Order}
@@ -21,6 +17,7 @@ use Rattle.score.specs.Fields.{isEnd}
 use Rattle.score.specs.Scores.{good, scoreOf, clocksOf as Scores·clocksOf, Chain, ends, goes}
 use Rattle.score.specs.Stamps.{admit}
 use Rattle.score.proofs.Chains.{score-chain}
+use Rattle.score.proofs.Stamps.{admits}
 use Rattle.sid.specs.Sid.{fresh as Sid·fresh, Call, called, after, clocksOf}
 use Rattle.sid.proofs.Joined.{after-ticks, count-ticks}
 use Rattle.player.specs.ScoreCalls.{callThen, callsTo}
@@ -75,16 +72,9 @@ module _ (stamp : ℕ) where
         count-ticks (f .stamp - p .clock) (callThen (f .what) (callsTo (q .clock) fs stamp)),
       )
 
-admitted : (o : Order) (f : Field) (o′ : Order) → admit o f ≡ Next o′ → (o .last ≤ f .stamp) × (o′ .last ≡ f .stamp)
-unfolding admit
-admitted o f o′ =
-    let by = by-test (λ (r : Admitted). r ≡ Next o′ → (o .last ≤ f .stamp) × (o′ .last ≡ f .stamp)) in
-    by (ltb 100000000 (f .stamp)) _ _ (λ _ e. let z : _≡_ {A = ℕ} 0 1 = cc in absurd (omega arith))
-    (λ _. by (ltb (f .stamp) (o .last)) _ _ (λ _ e. let z : _≡_ {A = ℕ} 0 1 = cc in absurd (omega arith)) (λ l e. (ltb-false _ _ l, cc)))
-
-ran-clock : (o : Order) (g : Field) (o′ : Order) → admit o g ≡ Next o′ → (p : Panel) → p .clock ≡ o .last → atStamp g p .clock ≡ g .stamp
+ran-clock : {o : Order} (f : Field) {o′ : Order} → admit o f ≡ Next o′ → (p : Panel) → p .clock ≡ o .last → atStamp f p .clock ≡ f .stamp
 unfolding ranTo
-ran-clock o g o′ a p k = let l = admitted o g o′ a .0 in omega arith
+ran-clock f a p k = let l = admits a .not-below in omega arith
 
 -- stamps never fall, so that each field finds the clocks of the one before
 on-stamp
@@ -96,17 +86,17 @@ on-stamp
     → p .clock ≡ o .last
     → atStamp f (played xs p) .clock ≡ f .stamp
 unfolding played
-on-stamp {o = o} (ends {o′ = o′} {f = g} e a i) [] f ys q p k =
+on-stamp (ends {f = g} e a i) [] f ys q p k =
     let h : g ≡ f = cc in
-    subst (λ (x : Field). atStamp x p .clock ≡ x .stamp) h (ran-clock o g o′ a p k)
+    subst (λ (x : Field). atStamp x p .clock ≡ x .stamp) h (ran-clock g a p k)
 on-stamp (ends e a i) (x ∷ xs) f ys q p k = absurd (omega (arith, ap length q, length-append xs (f ∷ ys)))
-on-stamp {o = o} (goes {o′ = o′} {f = g} e a i r) [] f ys q p k =
+on-stamp (goes {f = g} e a i r) [] f ys q p k =
     let h : g ≡ f = cc in
-    subst (λ (x : Field). atStamp x p .clock ≡ x .stamp) h (ran-clock o g o′ a p k)
-on-stamp {o = o} (goes {o′ = o′} {f = g} {fs = gs} e a i r) (x ∷ xs) f ys q p k =
+    subst (λ (x : Field). atStamp x p .clock ≡ x .stamp) h (ran-clock g a p k)
+on-stamp (goes {f = g} e a i r) (x ∷ xs) f ys q p k =
     let h : g ≡ x = cc in
-    let there : atStamp x p .clock ≡ x .stamp = subst (λ (y : Field). atStamp y p .clock ≡ y .stamp) h (ran-clock o g o′ a p k) in
-    on-stamp r xs f ys (cc) (doneBy (x .what) (atStamp x p)) (clock-done (x .what) (atStamp x p) ∙ (there ∙ (ap (λ (y : Field). y .stamp) (sym h) ∙ sym (admitted o g o′ a .1))))
+    let there : atStamp x p .clock ≡ x .stamp = subst (λ (y : Field). atStamp y p .clock ≡ y .stamp) h (ran-clock g a p k) in
+    on-stamp r xs f ys (cc) (doneBy (x .what) (atStamp x p)) (clock-done (x .what) (atStamp x p) ∙ (there ∙ (ap (λ (y : Field). y .stamp) (sym h) ∙ sym (admits a .is-last))))
 
 -- the panel that a field of an accepted score meets
 pub record Meets (xs : List Field) (f : Field) : Type 0 where
@@ -139,18 +129,18 @@ closes
     → p .clock ≡ o .last
     → Closes (play fs p) (played fs p) (Scores·clocksOf fs)
 unfolding play played
-closes {o = o} (ends {o′ = o′} {f = f} e a i) p k =
+closes (ends {f = f} e a i) p k =
     let q = atStamp f p in
-    let c = ran-clock o f o′ a p k in
+    let c = ran-clock f a p k in
     rw i (record { before = []; text-is = append-nil (lineOf (f .stamp) (f .what) q) ∙ (end-line (f .stamp) (f .what) q i ∙ ap endLine c); clock = clock-done (f .what) q ∙ c })
-closes {o = o} (goes {o′ = o′} {f = f} {fs = fs} e a i r) p k =
+closes (goes {f = f} {fs = fs} e a i r) p k =
     let q = atStamp f p in
     let line = lineOf (f .stamp) (f .what) q in
-    let c = closes r (doneBy (f .what) q) (clock-done (f .what) q ∙ (ran-clock o f o′ a p k ∙ sym (admitted o f o′ a .1))) in
+    let c = closes r (doneBy (f .what) q) (clock-done (f .what) q ∙ (ran-clock f a p k ∙ sym (admits a .is-last))) in
     rw i
     (record {
       before = line ++ c .before;
-      text-is = ap (λ (x : List ℕ). line ++ x) (c .text-is) ∙ sym (append-assoc (line) (c .before) (endLine (Scores·clocksOf fs)));
+      text-is = ap (λ (x : List ℕ). line ++ x) (c .text-is) ∙ sym (append-assoc line (c .before) (endLine (Scores·clocksOf fs)));
       clock = c .clock;
     })
 

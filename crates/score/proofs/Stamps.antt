@@ -1,9 +1,12 @@
--- `admit`, one law for each way that a stamp is judged, and one over all of them. Assumes nothing.
-use Prim.Native.Nat.{_≤_, _<_}
+-- `admit`, one law for each way that a stamp is judged, and one over all of them; what an order that was given says.
+-- Assumes nothing.
+use Prim.Native.Nat.{ℕ, _≤_, _<_}
+use native.Mathlib.Omega.{arith}
 use mathlib.Core.Path.{_≡_}
 use lib.Dec.{ltb}
 use borrow.Author.Tests.{lt-ltb, le-ltb, ltb-true, ltb-false}
 use Rattle.laws.proofs.Cond.{by-test}
+use Rattle.refusals.specs.declared.Refusal.{Refusal}
 use Rattle.refusals.specs.declared.Refusal.the-variants.{StampTooLate, StampFalls}
 use Rattle.score.specs.declared.Admitted.{Admitted}
 use Rattle.score.specs.declared.Admitted.the-variants.{Next, Refused}
@@ -36,3 +39,17 @@ module _ (o : Order) (f : Field) where
   by-stamp P late fall next =
       by-test P (ltb 100000000 (f .stamp)) _ _ (λ h. late (ltb-true _ _ h))
       (λ h. by-test P (ltb (f .stamp) (o .last)) _ _ (λ l. fall (ltb-false _ _ h) (ltb-true _ _ l)) (λ l. next (ltb-false _ _ h) (ltb-false _ _ l)))
+
+-- what the order after a field says of its stamp
+pub record Admits (o : Order) (f : Field) (o′ : Order) : Type 0 where
+  pub not-over : f .stamp ≤ 100000000
+  pub not-below : o .last ≤ f .stamp
+  pub is-last : o′ .last ≡ f .stamp
+
+pub admits : {o : Order} {f : Field} {o′ : Order} → admit o f ≡ Next o′ → Admits o f o′
+admits {o} {f} {o′} =
+    by-stamp o f (λ (a : Admitted). a ≡ Next o′ → Admits o f o′)
+    (λ _. refuses) (λ _ _. refuses) (λ h l e. record { not-over = h; not-below = l; is-last = cc })
+  where
+    refuses : {why : Refusal} → Refused why ≡ Next o′ → Admits o f o′
+    refuses e = let z : _≡_ {A = ℕ} 0 1 = cc in absurd (omega arith)

@@ -8,8 +8,6 @@ use lib.ListN.{length, drop, length-drop, length-append}
 use lib.Seq.{drop-drop, drop-length, getD-drop, drop-append-seam}
 use Rattle.words.proofs.Bytes.{length-bytes, byte-number, byte-first, number-bytes, bytes-number}
 use Rattle.words.specs.Words.{Bytes, numberAt, bytesOf}
-use Rattle.score.specs.declared.Admitted.{Admitted}
-use Rattle.score.specs.declared.Admitted.the-variants.{Next}
 use Rattle.score.specs.declared.Field.{Field}
 use Rattle.score.specs.declared.FieldRead.the-variants.{Got}
 use Rattle.score.specs.declared.Order.{Order}
@@ -17,10 +15,10 @@ use Rattle.score.specs.declared.What.{What}
 use Rattle.score.specs.declared.What.the-variants.{Write, Read, Levels, End}
 use Rattle.score.specs.Fields.{lenOf, whatOf, stamped, valueOf, fieldAt, tagOf, restOf, written, allWritten}
 use Rattle.score.specs.Scores.{good, scoreOf, Chain, ends, goes}
-use Rattle.score.specs.Stamps.{unstamped, admit, InOrder, closed, opened}
+use Rattle.score.specs.Stamps.{unstamped, InOrder, closed, opened}
 use Rattle.score.proofs.Chains.{score-chain, chain-score}
 use Rattle.score.proofs.Fields.{field-whole, stands, tags}
-use Rattle.score.proofs.Stamps.{by-stamp}
+use Rattle.score.proofs.Stamps.{admits}
 
 -- ---- a field that was read is the bytes at its place
 
@@ -114,20 +112,15 @@ chain-order (goes e a i r) = opened a i (chain-order r)
 pub score-bytes : {s : List ℕ} {fs : List Field} → Bytes s → scoreOf s ≡ good fs → (s ≡ allWritten fs) × InOrder unstamped fs × (length s ≤ 65536)
 score-bytes {s} small e = let c = score-chain s e in (chain-bytes small (c .0), chain-order (c .0), c .1)
 
-admitted-le : (o : Order) (f : Field) (o′ : Order) → admit o f ≡ Next o′ → f .stamp ≤ 100000000
-admitted-le o f o′ =
-    by-stamp o f (λ (a : Admitted). a ≡ Next o′ → f .stamp ≤ 100000000)
-    (λ _ e. let z : _≡_ {A = ℕ} 0 1 = cc in absurd (omega arith)) (λ h _ _. h) (λ h _ _. h)
-
 order-chain : {o : Order} {fs : List Field} → InOrder o fs → (s : List ℕ) (at : ℕ) → drop at s ≡ allWritten fs → Chain s at o fs
 unfolding allWritten
-order-chain {o} (closed {o′ = o′} {f = f} a i) s at e =
-    let l = admitted-le o f o′ a in
+order-chain (closed {f = f} a i) s at e =
+    let l = admits a .not-over in
     let sh = shape (f .stamp) (f .what) in
     let q : at + length (written f) ≡ length s = omega (arith, length-drop at s, ap length e, length-append (written f) []) in
     ends (field-back [] s at f (omega arith) e ∙ ap (Got f) q) a i
-order-chain {o} (opened {o′ = o′} {f = f} {fs = fs} a i r) s at e =
-    let l = admitted-le o f o′ a in
+order-chain (opened {f = f} {fs = fs} a i r) s at e =
+    let l = admits a .not-over in
     goes (field-back (allWritten fs) s at f (omega arith) e) a i
     (order-chain r s (at + length (written f)) (sym (drop-drop (length (written f)) at s) ∙ (ap (drop (length (written f))) e ∙ drop-append-seam (written f) (allWritten fs))))
 
