@@ -38,9 +38,9 @@ value-bytes v small =
     (λ h. record { tag-is = refl; bytes = stamp (omega arith) })
 
 -- the pieces of a field's bytes, before the bytes ys
-parts : (f : Field) (ys : List ℕ) → written f ++ ys ≡ tagOf (f .what) ∷ (bytesOf 2 (lenOf (tagOf (f .what))) ++ (bytesOf 4 (f .stamp) ++ (restOf (f .what) ++ ys)))
+parts : (t : ℕ) (w : What) (ys : List ℕ) → written (stamped t w) ++ ys ≡ tagOf w ∷ (bytesOf 2 (lenOf (tagOf w)) ++ (bytesOf 4 t ++ (restOf w ++ ys)))
 unfolding written
-parts f ys = simp append-assoc
+parts t w ys = simp append-assoc
 
 module _ (s : List ℕ) (small : Bytes s) where
   pub field-bytes : (at : ℕ) {f : Field} {next : ℕ} → fieldAt s at ≡ Got f next → drop at s ≡ written f ++ drop next s
@@ -52,7 +52,7 @@ module _ (s : List ℕ) (small : Bytes s) where
       let t : tagOf (f .what) ≡ tag = ap (λ (g : Field). tagOf (g .what)) (st .field) ∙ b .tag-is in
       let p : at + 1 + 2 ≡ at + 3 = omega arith in
       let w : v ≡ bytesOf 4 (f .stamp) ++ (restOf (f .what) ++ drop next s) = rw (st .field, st .ends, ← drop-drop (lenOf tag) (at + 3) s) (b .bytes) in
-      rw (parts f (drop next s), t, byte-first s at (omega arith), number-bytes s small 2 (at + 1) (omega arith), st .whole .says, p)
+      rw (parts (f .stamp) (f .what) (drop next s), t, byte-first s at (omega arith), number-bytes s small 2 (at + 1) (omega arith), st .whole .says, p)
       (ap (λ (x : List ℕ). tag ∷ (bytesOf 2 (lenOf tag) ++ x)) w)
 
 -- ---- a field that was written is read back
@@ -70,32 +70,33 @@ shape t Levels = record { four = omega arith; six = omega arith; long = refl }
 shape t End = record { four = omega arith; six = omega arith; long = refl }
 
 module _ (ys : List ℕ) where
-  abbrev value : Field → List ℕ
-  value f = bytesOf 4 (f .stamp) ++ (restOf (f .what) ++ ys)
+  abbrev value : ℕ → What → List ℕ
+  value t w = bytesOf 4 t ++ (restOf w ++ ys)
 
-  stamp-back : (f : Field) → f .stamp < 2 ^ 32 → numberAt 4 (value f) 0 ≡ f .stamp
-  stamp-back f = bytes-number (value f) 4 0 (f .stamp) (restOf (f .what) ++ ys) refl (omega (arith, length-append (bytesOf 4 (f .stamp)) (restOf (f .what) ++ ys), length-bytes 4 (f .stamp)))
+  stamp-back : (t : ℕ) (w : What) → t < 2 ^ 32 → numberAt 4 (value t w) 0 ≡ t
+  stamp-back t w = bytes-number (value t w) 4 0 t (restOf w ++ ys) refl (omega (arith, length-append (bytesOf 4 t) (restOf w ++ ys), length-bytes 4 t))
 
-  what-back : (t : ℕ) (w : What) → whatOf (tagOf w) (value (stamped t w)) ≡ w
+  what-back : (t : ℕ) (w : What) → whatOf (tagOf w) (value t w) ≡ w
   unfolding whatOf bytesOf
-  what-back t (Write a v) = rw (byte-number (value (stamped t (Write a v))) 4 (omega arith), byte-number (value (stamped t (Write a v))) 5 (omega arith))
-  what-back t (Read a) = rw (byte-number (value (stamped t (Read a))) 4 (omega arith))
+  what-back t (Write a v) = rw (byte-number (value t (Write a v)) 4 (omega arith), byte-number (value t (Write a v)) 5 (omega arith))
+  what-back t (Read a) = rw (byte-number (value t (Read a)) 4 (omega arith))
   what-back t Levels = refl
   what-back t End = refl
 
   pub field-back : (s : List ℕ) (at : ℕ) (f : Field) → f .stamp < 2 ^ 32 → drop at s ≡ written f ++ ys → fieldAt s at ≡ Got f (at + length (written f))
   unfolding bytesOf
   field-back s at f l e =
-      let tag = tagOf (f .what) in
-      let sh = shape (f .stamp) (f .what) in
-      let n = lenOf tag in
-      let d : drop at s ≡ tag ∷ (bytesOf 2 n ++ value f) = e ∙ parts f ys in
+      let w = f .what in
+      let v = value (f .stamp) w in
+      let sh = shape (f .stamp) w in
+      let n = lenOf (tagOf w) in
+      let d : drop at s ≡ tagOf w ∷ (bytesOf 2 n ++ v) = e ∙ parts (f .stamp) w ys in
       let long : length s ≡ at + length (written f) + length ys = omega (arith, length-drop at s, ap length e, length-append (written f) ys) in
-      let t : numberAt 1 s at ≡ tag = cc (byte-first s at (omega arith)) in
-      let says : numberAt 2 s (at + 1) ≡ n = bytes-number s 2 (at + 1) n (value f) (sym (drop-drop 1 at s) ∙ ap (drop 1) d) (omega arith) (omega arith) in
-      let v : drop (at + 3) s ≡ value f = sym (drop-drop 3 at s) ∙ ap (drop 3) d in
+      let t : numberAt 1 s at ≡ tagOf w = cc (byte-first s at (omega arith)) in
+      let says : numberAt 2 s (at + 1) ≡ n = bytes-number s 2 (at + 1) n v (sym (drop-drop 1 at s) ∙ ap (drop 1) d) (omega arith) (omega arith) in
+      let rest : drop (at + 3) s ≡ v = sym (drop-drop 3 at s) ∙ ap (drop 3) d in
       field-whole s at (omega arith) (ap lenOf (sym t)) (λ z. omega arith) says (omega arith)
-      ∙ ap₂ Got (ap₂ valueOf t v ∙ ap₂ stamped (stamp-back f l) (what-back (f .stamp) (f .what))) (omega arith)
+      ∙ ap₂ Got (ap₂ valueOf t rest ∙ ap₂ stamped (stamp-back (f .stamp) w l) (what-back (f .stamp) w)) (omega arith)
 
 -- ---- scores
 

@@ -18,14 +18,14 @@ use Rattle.score.specs.declared.What.the-variants.{Write, Read, Levels, 
 unfoldable pub lenOf : ℕ → ℕ
 lenOf tag = cond (eqb tag 0x01) 6 (cond (eqb tag 0x02) 5 (cond (eqb tag 0x03) 4 (cond (eqb tag 0x7f) 4 0)))
 
--- the field of a known tag, v beginning with its value: 'stamp in 4 bytes, address, value'
+abbrev pub stamped : ℕ → What → Field
+stamped stamp what = record { stamp = stamp; what = what }
+
+-- what a known tag asks for, and its field, v beginning with its value: 'stamp in 4 bytes, address, value'
 unfoldable pub whatOf : ℕ → List ℕ → What
 whatOf tag v =
     cond (eqb tag 0x01) (Write (numberAt 1 v 4) (numberAt 1 v 5))
     (cond (eqb tag 0x02) (Read (numberAt 1 v 4)) (cond (eqb tag 0x03) Levels End))
-
-abbrev pub stamped : ℕ → What → Field
-stamped stamp what = record { stamp = stamp; what = what }
 
 abbrev pub valueOf : ℕ → List ℕ → Field
 valueOf tag v = stamped (numberAt 4 v 0) (whatOf tag v)
