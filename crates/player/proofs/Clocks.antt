@@ -1,50 +1,48 @@
 -- A field of an accepted score meets a fresh chip after as many ticks as its stamp says, all counted. Assumes nothing.
-use Prim.Native.Nat.{ℕ, _+_, _-_, _≤_}
+use Prim.Native.Nat.{ℕ, _+_, _-_}
 use native.Mathlib.Omega.{arith}
 use mathlib.Core.Bool.{true}
 use mathlib.Core.List.{List, [], _∷_, _++_, append-nil, append-assoc}
 use mathlib.Core.Path.{_≡_, refl, ap, sym, subst, _∙_}
-use lib.Dec.{ltb}
 use lib.ListN.{length, length-append}
-use borrow.Author.Tests.{ltb-false}
-use Rattle.laws.proofs.Cond.{by-test}
 use Rattle.listing.specs.Text.{endLine}
 use Rattle.panel.specs.declared.Panel.{Panel}
 use Rattle.panel.specs.Panel.{fresh, ranTo, readOf}
-use Rattle.score.specs.declared.Admitted.{Admitted}
 use Rattle.score.specs.declared.Admitted.the-variants.{Next}
 use Rattle.score.specs.declared.Field.{Field}
-use Rattle.score.specs.declared.Field.the-variants.{Write, Read, Levels, End}
 use Rattle.score.specs.declared.Order.{Order}
-use Rattle.score.specs.Fields.{stampOf, isEnd}
+use Rattle.score.specs.declared.What.{What}
+use Rattle.score.specs.declared.What.the-variants.{Write, Read, Levels, End}
+use Rattle.score.specs.Fields.{isEnd}
 use Rattle.score.specs.Scores.{good, scoreOf, clocksOf as Scores·clocksOf, Chain, ends, goes}
 use Rattle.score.specs.Stamps.{admit}
 use Rattle.score.proofs.Chains.{score-chain}
+use Rattle.score.proofs.Stamps.{admits}
 use Rattle.sid.specs.Sid.{fresh as Sid·fresh, Call, called, after, clocksOf}
 use Rattle.sid.proofs.Joined.{after-ticks, count-ticks}
 use Rattle.player.specs.ScoreCalls.{callThen, callsTo}
 use Rattle.player.specs.Listing.{lineOf, doneBy, atStamp, play, played, listing}
 
-after-call : (f : Field) (calls : List Call) (p : Panel) → after (callThen f calls) (p .chip) ≡ after calls (doneBy f p .chip)
+after-call : (w : What) (calls : List Call) (p : Panel) → after (callThen w calls) (p .chip) ≡ after calls (doneBy w p .chip)
 unfolding after called doneBy readOf
-after-call (Write t a v) calls p = refl
-after-call (Read t a) calls p = refl
-after-call (Levels t) calls p = refl
-after-call (End t) calls p = refl
+after-call (Write a v) calls p = refl
+after-call (Read a) calls p = refl
+after-call Levels calls p = refl
+after-call End calls p = refl
 
-count-call : (f : Field) (calls : List Call) → clocksOf (callThen f calls) ≡ clocksOf calls
+count-call : (w : What) (calls : List Call) → clocksOf (callThen w calls) ≡ clocksOf calls
 unfolding clocksOf
-count-call (Write t a v) calls = refl
-count-call (Read t a) calls = refl
-count-call (Levels t) calls = refl
-count-call (End t) calls = refl
+count-call (Write a v) calls = refl
+count-call (Read a) calls = refl
+count-call Levels calls = refl
+count-call End calls = refl
 
-clock-done : (f : Field) (p : Panel) → doneBy f p .clock ≡ p .clock
+clock-done : (w : What) (p : Panel) → doneBy w p .clock ≡ p .clock
 unfolding doneBy readOf
-clock-done (Write t a v) p = refl
-clock-done (Read t a) p = refl
-clock-done (Levels t) p = refl
-clock-done (End t) p = refl
+clock-done (Write a v) p = refl
+clock-done (Read a) p = refl
+clock-done Levels p = refl
+clock-done End p = refl
 
 module _ (stamp : ℕ) where
   -- the chip is what the calls make of it
@@ -53,10 +51,10 @@ module _ (stamp : ℕ) where
   chip-called [] p = sym (after-ticks (stamp - p .clock) [] (p .chip))
   chip-called (f ∷ fs) p =
       let q = atStamp f p in
-      chip-called fs (doneBy f q)
-      ∙ (ap (λ (n : ℕ). after (callsTo n fs stamp) (doneBy f q .chip)) (clock-done f q)
-      ∙ (sym (after-call f (callsTo (q .clock) fs stamp) q)
-      ∙ sym (after-ticks (stampOf f - p .clock) (callThen f (callsTo (q .clock) fs stamp)) (p .chip))))
+      chip-called fs (doneBy (f .what) q)
+      ∙ (ap (λ (n : ℕ). after (callsTo n fs stamp) (doneBy (f .what) q .chip)) (clock-done (f .what) q)
+      ∙ (sym (after-call (f .what) (callsTo (q .clock) fs stamp) q)
+      ∙ sym (after-ticks (f .stamp - p .clock) (callThen (f .what) (callsTo (q .clock) fs stamp)) (p .chip))))
 
   -- and the panel's clock counts the ticks among them
   pub clock-counts : (fs : List Field) (p : Panel) → ranTo stamp (played fs p) .clock ≡ p .clock + clocksOf (callsTo (p .clock) fs stamp)
@@ -64,26 +62,19 @@ module _ (stamp : ℕ) where
   clock-counts [] p = omega (arith, count-ticks (stamp - p .clock) [])
   clock-counts (f ∷ fs) p =
       let q = atStamp f p in
-      let a : callsTo (doneBy f q .clock) fs stamp ≡ callsTo (q .clock) fs stamp = ap (λ (n : ℕ). callsTo n fs stamp) (clock-done f q) in
+      let a : callsTo (doneBy (f .what) q .clock) fs stamp ≡ callsTo (q .clock) fs stamp = ap (λ (n : ℕ). callsTo n fs stamp) (clock-done (f .what) q) in
       omega (
         arith,
-        clock-counts fs (doneBy f q),
-        clock-done f q,
+        clock-counts fs (doneBy (f .what) q),
+        clock-done (f .what) q,
         ap clocksOf a,
-        count-call f (callsTo (q .clock) fs stamp),
-        count-ticks (stampOf f - p .clock) (callThen f (callsTo (q .clock) fs stamp)),
+        count-call (f .what) (callsTo (q .clock) fs stamp),
+        count-ticks (f .stamp - p .clock) (callThen (f .what) (callsTo (q .clock) fs stamp)),
       )
 
-admitted : (o : Order) (f : Field) (o′ : Order) → admit o f ≡ Next o′ → (o .last ≤ stampOf f) × (o′ .last ≡ stampOf f)
-unfolding admit
-admitted o f o′ =
-    let by = by-test (λ (r : Admitted). r ≡ Next o′ → (o .last ≤ stampOf f) × (o′ .last ≡ stampOf f)) in
-    by (ltb 100000000 (stampOf f)) _ _ (λ _ e. let z : _≡_ {A = ℕ} 0 1 = cc in absurd (omega arith))
-    (λ _. by (ltb (stampOf f) (o .last)) _ _ (λ _ e. let z : _≡_ {A = ℕ} 0 1 = cc in absurd (omega arith)) (λ l e. (ltb-false _ _ l, cc)))
-
-ran-clock : (o : Order) (g : Field) (o′ : Order) → admit o g ≡ Next o′ → (p : Panel) → p .clock ≡ o .last → atStamp g p .clock ≡ stampOf g
+ran-clock : {o : Order} (f : Field) {o′ : Order} → admit o f ≡ Next o′ → (p : Panel) → p .clock ≡ o .last → atStamp f p .clock ≡ f .stamp
 unfolding ranTo
-ran-clock o g o′ a p k = let l = admitted o g o′ a .0 in omega arith
+ran-clock f a p k = let l = admits a .not-below in omega arith
 
 -- stamps never fall, so that each field finds the clocks of the one before
 on-stamp
@@ -93,37 +84,37 @@ on-stamp
     → fs ≡ xs ++ (f ∷ ys)
     → (p : Panel)
     → p .clock ≡ o .last
-    → atStamp f (played xs p) .clock ≡ stampOf f
+    → atStamp f (played xs p) .clock ≡ f .stamp
 unfolding played
-on-stamp {o = o} (ends {o′ = o′} {f = g} e a i) [] f ys q p k =
+on-stamp (ends {f = g} e a i) [] f ys q p k =
     let h : g ≡ f = cc in
-    subst (λ (x : Field). atStamp x p .clock ≡ stampOf x) h (ran-clock o g o′ a p k)
+    subst (λ (x : Field). atStamp x p .clock ≡ x .stamp) h (ran-clock g a p k)
 on-stamp (ends e a i) (x ∷ xs) f ys q p k = absurd (omega (arith, ap length q, length-append xs (f ∷ ys)))
-on-stamp {o = o} (goes {o′ = o′} {f = g} e a i r) [] f ys q p k =
+on-stamp (goes {f = g} e a i r) [] f ys q p k =
     let h : g ≡ f = cc in
-    subst (λ (x : Field). atStamp x p .clock ≡ stampOf x) h (ran-clock o g o′ a p k)
-on-stamp {o = o} (goes {o′ = o′} {f = g} {fs = gs} e a i r) (x ∷ xs) f ys q p k =
+    subst (λ (x : Field). atStamp x p .clock ≡ x .stamp) h (ran-clock g a p k)
+on-stamp (goes {f = g} e a i r) (x ∷ xs) f ys q p k =
     let h : g ≡ x = cc in
-    let there : atStamp x p .clock ≡ stampOf x = subst (λ (y : Field). atStamp y p .clock ≡ stampOf y) h (ran-clock o g o′ a p k) in
-    on-stamp r xs f ys (cc) (doneBy x (atStamp x p)) (clock-done x (atStamp x p) ∙ (there ∙ (ap stampOf (sym h) ∙ sym (admitted o g o′ a .1))))
+    let there : atStamp x p .clock ≡ x .stamp = subst (λ (y : Field). atStamp y p .clock ≡ y .stamp) h (ran-clock g a p k) in
+    on-stamp r xs f ys (cc) (doneBy (x .what) (atStamp x p)) (clock-done (x .what) (atStamp x p) ∙ (there ∙ (ap (λ (y : Field). y .stamp) (sym h) ∙ sym (admits a .is-last))))
 
 -- the panel that a field of an accepted score meets
 pub record Meets (xs : List Field) (f : Field) : Type 0 where
-  pub chip : atStamp f (played xs fresh) .chip ≡ after (callsTo 0 xs (stampOf f)) Sid·fresh
-  pub ticks : clocksOf (callsTo 0 xs (stampOf f)) ≡ stampOf f
-  pub clock : atStamp f (played xs fresh) .clock ≡ stampOf f
+  pub chip : atStamp f (played xs fresh) .chip ≡ after (callsTo 0 xs (f .stamp)) Sid·fresh
+  pub ticks : clocksOf (callsTo 0 xs (f .stamp)) ≡ f .stamp
+  pub clock : atStamp f (played xs fresh) .clock ≡ f .stamp
 
 pub stamp-clocks : (s : List ℕ) (xs : List Field) (f : Field) (ys : List Field) → scoreOf s ≡ good (xs ++ (f ∷ ys)) → Meets xs f
 stamp-clocks s xs f ys e =
     let c = on-stamp (score-chain s e .0) xs f ys refl fresh refl in
-    record { chip = chip-called (stampOf f) xs fresh; ticks = omega (arith, clock-counts (stampOf f) xs fresh, c); clock = c }
+    record { chip = chip-called (f .stamp) xs fresh; ticks = omega (arith, clock-counts (f .stamp) xs fresh, c); clock = c }
 
-end-line : (f : Field) (p : Panel) → isEnd f ≡ true → lineOf f p ≡ endLine (p .clock)
+end-line : (t : ℕ) (w : What) (p : Panel) → isEnd w ≡ true → lineOf t w p ≡ endLine (p .clock)
 unfolding lineOf
-end-line (Write t a v) p i = let z : _≡_ {A = ℕ} 0 1 = cc in absurd (omega arith)
-end-line (Read t a) p i = let z : _≡_ {A = ℕ} 0 1 = cc in absurd (omega arith)
-end-line (Levels t) p i = let z : _≡_ {A = ℕ} 0 1 = cc in absurd (omega arith)
-end-line (End t) p i = refl
+end-line t (Write a v) p i = let z : _≡_ {A = ℕ} 0 1 = cc in absurd (omega arith)
+end-line t (Read a) p i = let z : _≡_ {A = ℕ} 0 1 = cc in absurd (omega arith)
+end-line t Levels p i = let z : _≡_ {A = ℕ} 0 1 = cc in absurd (omega arith)
+end-line t End p i = refl
 
 -- the lines end with `E n`, and the panel has then run n clocks
 pub record Closes (text : List ℕ) (p : Panel) (n : ℕ) : Type 0 where
@@ -138,17 +129,18 @@ closes
     → p .clock ≡ o .last
     → Closes (play fs p) (played fs p) (Scores·clocksOf fs)
 unfolding play played
-closes {o = o} (ends {o′ = o′} {f = f} e a i) p k =
+closes (ends {f = f} e a i) p k =
     let q = atStamp f p in
-    let c = ran-clock o f o′ a p k in
-    rw i (record { before = []; text-is = append-nil (lineOf f q) ∙ (end-line f q i ∙ ap endLine c); clock = clock-done f q ∙ c })
-closes {o = o} (goes {o′ = o′} {f = f} {fs = fs} e a i r) p k =
+    let c = ran-clock f a p k in
+    rw i (record { before = []; text-is = append-nil (lineOf (f .stamp) (f .what) q) ∙ (end-line (f .stamp) (f .what) q i ∙ ap endLine c); clock = clock-done (f .what) q ∙ c })
+closes (goes {f = f} {fs = fs} e a i r) p k =
     let q = atStamp f p in
-    let c = closes r (doneBy f q) (clock-done f q ∙ (ran-clock o f o′ a p k ∙ sym (admitted o f o′ a .1))) in
+    let line = lineOf (f .stamp) (f .what) q in
+    let c = closes r (doneBy (f .what) q) (clock-done (f .what) q ∙ (ran-clock f a p k ∙ sym (admits a .is-last))) in
     rw i
     (record {
-      before = lineOf f q ++ c .before;
-      text-is = ap (λ (x : List ℕ). lineOf f q ++ x) (c .text-is) ∙ sym (append-assoc (lineOf f q) (c .before) (endLine (Scores·clocksOf fs)));
+      before = line ++ c .before;
+      text-is = ap (λ (x : List ℕ). line ++ x) (c .text-is) ∙ sym (append-assoc line (c .before) (endLine (Scores·clocksOf fs)));
       clock = c .clock;
     })
 

@@ -6,8 +6,8 @@ use Rattle.listing.specs.Text.{endLine}
 use Rattle.panel.specs.declared.Panel.{Panel}
 use Rattle.panel.specs.Panel.{fresh, readOf, levels}
 use Rattle.score.specs.declared.Field.{Field}
-use Rattle.score.specs.declared.Field.the-variants.{Write, Read, Levels, End}
-use Rattle.score.specs.Fields.{stampOf}
+use Rattle.score.specs.declared.What.{What}
+use Rattle.score.specs.declared.What.the-variants.{Write, Read, Levels, End}
 use Rattle.score.specs.Scores.{good, scoreOf}
 use Rattle.player.specs.ScoreCalls.{shownBy, Shows}
 use Rattle.player.specs.Listing.{lineOf, doneBy, atStamp, play, played, listingOf, listing}
@@ -19,25 +19,26 @@ unfolding play played
 play-join [] ys p = refl
 play-join (x ∷ xs) ys p =
     let q = atStamp x p in
-    let r = doneBy x q in
-    ap (λ (text : List ℕ). lineOf x q ++ text) (play-join xs ys r) ∙ sym (append-assoc (lineOf x q) (play xs r) (play ys (played xs r)))
+    let r = doneBy (x .what) q in
+    let line = lineOf (x .stamp) (x .what) q in
+    ap (λ (text : List ℕ). line ++ text) (play-join xs ys r) ∙ sym (append-assoc line (play xs r) (play ys (played xs r)))
 
 -- a line shows the panel's chip
-line-shown : (f : Field) (p : Panel) → p .clock ≡ stampOf f → lineOf f p ≡ shownBy f (p .chip)
+line-shown : (t : ℕ) (w : What) (p : Panel) → p .clock ≡ t → lineOf t w p ≡ shownBy t w (p .chip)
 unfolding lineOf shownBy readOf levels
-line-shown (Write t a v) p k = refl
-line-shown (Read t a) p k = refl
-line-shown (Levels t) p k = refl
-line-shown (End t) p k = ap endLine k
+line-shown t (Write a v) p k = refl
+line-shown t (Read a) p k = refl
+line-shown t Levels p k = refl
+line-shown t End p k = ap endLine k
 
 pub line-shows : (s : List ℕ) (xs : List Field) (f : Field) (ys : List Field) → scoreOf s ≡ good (xs ++ (f ∷ ys)) → Shows (listing s) xs f
 unfolding listing play
 line-shows s xs f ys e =
     let m = stamp-clocks s xs f ys e in
     let q = atStamp f (played xs fresh) in
-    let line = line-shown f q (m .clock) ∙ ap (shownBy f) (m .chip) in
+    let line = line-shown (f .stamp) (f .what) q (m .clock) ∙ ap (shownBy (f .stamp) (f .what)) (m .chip) in
     record {
-      rest = play ys (doneBy f q);
-      stands = ap listingOf e ∙ (play-join xs (f ∷ ys) fresh ∙ ap (λ (text : List ℕ). play xs fresh ++ (text ++ play ys (doneBy f q))) line);
+      rest = play ys (doneBy (f .what) q);
+      stands = ap listingOf e ∙ (play-join xs (f ∷ ys) fresh ∙ ap (λ (text : List ℕ). play xs fresh ++ (text ++ play ys (doneBy (f .what) q))) line);
       ticks = m .ticks;
     }

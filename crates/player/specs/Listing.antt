@@ -7,37 +7,37 @@ use Rattle.panel.specs.declared.Panel.{Panel}
 use Rattle.panel.specs.Panel.{fresh, ranTo, written, readOf, levels}
 use Rattle.refusals.specs.Refusals.{told}
 use Rattle.score.specs.declared.Field.{Field}
-use Rattle.score.specs.declared.Field.the-variants.{Write, Read, Levels, End}
-use Rattle.score.specs.Fields.{stampOf}
+use Rattle.score.specs.declared.What.{What}
+use Rattle.score.specs.declared.What.the-variants.{Write, Read, Levels, End}
 use Rattle.score.specs.Scores.{Parsed, good, bad, scoreOf}
 
 -- 'Lines: R stamp address read, L stamp code level …, and E clocks': what a field prints of the panel at its stamp
-unfoldable pub lineOf : Field → Panel → List ℕ
-lineOf (Write t a v) p = []
-lineOf (Read t a) p = readLine t a (readOf p a .byte)
-lineOf (Levels t) p = levelsLine t (levels p .«voice_0») (levels p .«voice_1») (levels p .«voice_2»)
-lineOf (End t) p = endLine (p .clock)
+unfoldable pub lineOf : ℕ → What → Panel → List ℕ
+lineOf t (Write a v) p = []
+lineOf t (Read a) p = readLine t a (readOf p a .byte)
+lineOf t Levels p = levelsLine t (levels p .«voice_0») (levels p .«voice_1») (levels p .«voice_2»)
+lineOf t End p = endLine (p .clock)
 
 -- what a field does to the panel that has run to its stamp
-unfoldable pub doneBy : Field → Panel → Panel
-doneBy (Write t a v) p = written p a v
-doneBy (Read t a) p = readOf p a .panel
-doneBy (Levels t) p = p
-doneBy (End t) p = p
+unfoldable pub doneBy : What → Panel → Panel
+doneBy (Write a v) p = written p a v
+doneBy (Read a) p = readOf p a .panel
+doneBy Levels p = p
+doneBy End p = p
 
 -- the panel at a field's stamp
 abbrev pub atStamp : Field → Panel → Panel
-atStamp f p = ranTo (stampOf f) p
+atStamp f p = ranTo (f .stamp) p
 
 -- 'several fields may share a stamp and run in file order', 'Fields stamped as the end do run': lines, from a panel on
 unfoldable pub play : List Field → Panel → List ℕ
 play [] p = []
-play (f ∷ fs) p = lineOf f (atStamp f p) ++ play fs (doneBy f (atStamp f p))
+play (f ∷ fs) p = lineOf (f .stamp) (f .what) (atStamp f p) ++ play fs (doneBy (f .what) (atStamp f p))
 
 -- the panel after fields
 unfoldable pub played : List Field → Panel → Panel
 played [] p = p
-played (f ∷ fs) p = played fs (doneBy f (atStamp f p))
+played (f ∷ fs) p = played fs (doneBy (f .what) (atStamp f p))
 
 -- 'A refused score gives refused number at place alone'
 abbrev pub listingOf : Parsed → List ℕ

@@ -45,7 +45,11 @@ pub record Turn : Type 0 where
 
 -- the field f, which ends before `next`
 unfoldable pub onField : Panel → Field → ℕ → Turn
-onField p f next = record { next = player (doneBy f (atStamp f p)) (cond (isEnd f) Nothing (Fields next)); text = lineOf f (atStamp f p) }
+onField p f next =
+    record {
+      next = player (doneBy (f .what) (atStamp f p)) (cond (isEnd (f .what)) Nothing (Fields next));
+      text = lineOf (f .stamp) (f .what) (atStamp f p);
+    }
 
 abbrev pub onRefusal : Panel → Refusing → Turn
 onRefusal p r = record { next = player p Nothing; text = refusedLine (told r) }

@@ -5,6 +5,7 @@ use refusals::Refused;
 use score::Checked;
 use score::Field;
 use score::FieldRead;
+use score::What;
 ghost use mathlib.Core.Path.{_≡_};
 ghost use Prim.Native.Nat.{_≤_};
 ghost use lib.ListN.{length};
@@ -55,19 +56,17 @@ fn refuse(panel: Panel, r: Refused, line: &mut [u8; LINE]) -> Stepped
 fn play_field(panel: Panel, f: Field, next: usize, line: &mut [u8; LINE]) -> Stepped
     ensures { λ r. ⌜ Does (onField panel f next) (now (line .entry)) r (now (line .exit)) ⌝ }
 {
-    let there = panel.run_to(f.stamp());
-    match f {
-        Field::Write {
-            stamp: _,
-            address,
-            value,
-        } => {
+    let stamp = f.stamp;
+    let there = panel.run_to(stamp);
+    let what = f.what;
+    match what {
+        What::Write { address, value } => {
             let panel = there.write(address, value);
             let rest = Rest::Fields { at: next };
             let player = Player { panel, rest };
             return Stepped { player, len: 0 };
         }
-        Field::Read { stamp, address } => {
+        What::Read { address } => {
             let read = there.read(address);
             let len = listing::read_line(line, stamp, address, read.byte);
             let panel = read.panel;
@@ -75,7 +74,7 @@ fn play_field(panel: Panel, f: Field, next: usize, line: &mut [u8; LINE]) -> Ste
             let player = Player { panel, rest };
             return Stepped { player, len };
         }
-        Field::Levels { stamp } => {
+        What::Levels => {
             let display = there.levels();
             let voice_0 = display.voice_0;
             let voice_1 = display.voice_1;
@@ -85,7 +84,7 @@ fn play_field(panel: Panel, f: Field, next: usize, line: &mut [u8; LINE]) -> Ste
             let player = Player { panel: there, rest };
             return Stepped { player, len };
         }
-        Field::End { stamp: _ } => {
+        What::End => {
             let len = listing::end_line(line, there.clock);
             let rest = Rest::Nothing;
             let player = Player { panel: there, rest };

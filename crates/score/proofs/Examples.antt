@@ -3,8 +3,8 @@ use mathlib.Core.List.{[], _∷_, _++_}
 use mathlib.Core.Path.{_≡_, refl}
 use Rattle.refusals.specs.Refusals.{numbered}
 use Rattle.words.specs.Words.{little, numberAt}
-use Rattle.score.specs.declared.Field.the-variants.{Write, Read, Levels, End}
-use Rattle.score.specs.Fields.{lenOf, valueOf, fieldAt}
+use Rattle.score.specs.declared.What.the-variants.{Write, Read, Levels, End}
+use Rattle.score.specs.Fields.{lenOf, whatOf, stamped, fieldAt}
 use Rattle.score.specs.Scores.{good, walk, scoreOf, checked, accepts, refuses, verdict}
 use Rattle.score.specs.Stamps.{admit}
 
@@ -15,8 +15,8 @@ pub worked
     ++ (0x02 ∷ 0x05 ∷ 0x00 ∷ 0x0b ∷ 0x00 ∷ 0x00 ∷ 0x00 ∷ 0x00 ∷ [])
     ++ (0x02 ∷ 0x05 ∷ 0x00 ∷ 0x0c ∷ 0x00 ∷ 0x00 ∷ 0x00 ∷ 0x00 ∷ [])
     ++ (0x7f ∷ 0x04 ∷ 0x00 ∷ 0x0c ∷ 0x00 ∷ 0x00 ∷ 0x00 ∷ []))
-    ≡ good (Levels 0 ∷ Write 0 0x00 0x81 ∷ Read 11 0x00 ∷ Read 12 0x00 ∷ End 12 ∷ [])
-unfolding scoreOf walk fieldAt lenOf valueOf admit numberAt little
+    ≡ good (stamped 0 Levels ∷ stamped 0 (Write 0x00 0x81) ∷ stamped 11 (Read 0x00) ∷ stamped 12 (Read 0x00) ∷ stamped 12 End ∷ [])
+unfolding scoreOf walk fieldAt lenOf whatOf admit numberAt little
 worked = refl
 
 pub numbers
@@ -30,5 +30,5 @@ pub numbers
     × (verdict (checked (0x03 ∷ 0x04 ∷ 0x00 ∷ 0x01 ∷ 0x00 ∷ 0x00 ∷ 0x00 ∷ 0x7f ∷ 0x04 ∷ 0x00 ∷ 0x00 ∷ 0x00 ∷ 0x00 ∷ 0x00 ∷ [])) ≡ refuses (numbered 9 7))
     × (verdict (checked (0x7f ∷ 0x04 ∷ 0x00 ∷ 0x00 ∷ 0x00 ∷ 0x00 ∷ 0x00 ∷ 0x7f ∷ [])) ≡ refuses (numbered 10 7))
     × (verdict (checked (0x03 ∷ 0x04 ∷ 0x00 ∷ 0x00 ∷ 0x00 ∷ 0x00 ∷ 0x00 ∷ [])) ≡ refuses (numbered 11 7))
-unfolding checked scoreOf walk fieldAt lenOf valueOf admit numberAt little
+unfolding checked scoreOf walk fieldAt lenOf whatOf admit numberAt little
 numbers = (refl, refl, refl, refl, refl, refl, refl, refl, refl, refl)

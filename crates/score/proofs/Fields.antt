@@ -14,8 +14,8 @@ use Rattle.refusals.specs.declared.Refused.{Refused}
 use Rattle.score.specs.declared.Field.{Field}
 use Rattle.score.specs.declared.FieldRead.{FieldRead}
 use Rattle.score.specs.declared.FieldRead.the-variants.{Got, Refused as Unread}
-use Rattle.score.specs.Fields.{lenOf, valueOf, refuse, tagAt, saidAt, lenAt, valueAt, afterAt, fieldAt, stampOf, isEnd}
-use Rattle.score.specs.Given.{stampAt, Whole}
+use Rattle.score.specs.Fields.{lenOf, whatOf, refuse, tagAt, saidAt, lenAt, valueAt, afterAt, fieldAt, isEnd}
+use Rattle.score.specs.Given.{Whole}
 
 module _ (s : List ℕ) (at : ℕ) where
   pub header-cut : length s < at + 3 → fieldAt s at ≡ refuse FieldCut at
@@ -92,10 +92,6 @@ module _ {s : List ℕ} {at : ℕ} (w : Whole s at) where
   pub whole-read : fieldAt s at ≡ Got (valueAt s at) (afterAt s at)
   whole-read = field-whole s at (omega (arith, w .fits)) refl (w .known) (w .says) (w .fits)
 
-  pub whole-end : isEnd (valueAt s at) ≡ eqb (tagAt s at) 0x7f
-  unfolding valueOf
-  whole-end = tags (λ (tag : ℕ). isEnd (valueOf tag (drop (at + 3) s)) ≡ eqb tag 0x7f) refl refl refl refl (tagAt s at) (w .known)
-
-  pub whole-stamp : stampAt s at ≡ stampOf (valueAt s at)
-  unfolding valueOf
-  whole-stamp = tags (λ (tag : ℕ). stampAt s at ≡ stampOf (valueOf tag (drop (at + 3) s))) refl refl refl refl (tagAt s at) (w .known)
+  pub whole-end : isEnd (valueAt s at .what) ≡ eqb (tagAt s at) 0x7f
+  unfolding whatOf
+  whole-end = tags (λ (tag : ℕ). isEnd (whatOf tag (drop (at + 3) s)) ≡ eqb tag 0x7f) refl refl refl refl (tagAt s at) (w .known)

@@ -24,7 +24,7 @@ use Rattle.score.specs.Given.{stampAt, Whole, Timely, Prefix, none, more
 use Rattle.score.specs.Given.{Given, row-4, row-5-header, row-6, row-7, row-5-value, row-8, row-9, row-10, row-11}
 use Rattle.score.specs.Scores.{Parsed, good, bad, push, afterAdmit, afterRead, walk, scoreOf, answer, checked, refuses, verdict, Chain, ends, goes}
 use Rattle.score.specs.Stamps.{unstamped, admit}
-use Rattle.score.proofs.Fields.{header-cut, tag-unknown, length-wrong, value-cut, by-field, whole-read, whole-end, whole-stamp}
+use Rattle.score.proofs.Fields.{header-cut, tag-unknown, length-wrong, value-cut, by-field, whole-read, whole-end}
 use Rattle.score.proofs.Stamps.{too-late, falls, admitted, by-stamp}
 use Rattle.score.proofs.Walk.{over, unread, unadmitted, surplus, Kept, kept-first, kept-more, kept-end, too-long}
 
@@ -45,7 +45,7 @@ module _ {s : List ℕ} where
   prefix-le (more p w t e) = w .fits
 
   whole-admitted : {at : ℕ} {o : Order} → Whole s at → Timely s at o → admit o (valueAt s at) ≡ Next (record { last = stampAt s at })
-  whole-admitted {at} {o} w t = admitted o (valueAt s at) (whole-stamp w) (t .not-over) (t .not-below)
+  whole-admitted {at} {o} w t = admitted o (valueAt s at) (t .not-over) (t .not-below)
 
 -- ---- where a row is given, the check gives its number
 
@@ -63,8 +63,8 @@ module _ {s : List ℕ} where
   given-refused (row-6 p h z) = refused-at p (λ n. unread n s _ _ (omega arith) (tag-unknown s _ h refl z))
   given-refused (row-7 p h k e) = refused-at p (λ n. unread n s _ _ (omega arith) (length-wrong s _ h refl k e))
   given-refused (row-5-value p h k e c) = refused-at p (λ n. unread n s _ _ (omega arith) (value-cut s _ h refl k e c))
-  given-refused (row-8 p w h) = refused-at p (λ n. unadmitted n s _ _ (whole-read w) (too-late _ _ (whole-stamp w) h))
-  given-refused (row-9 p w h l) = refused-at p (λ n. unadmitted n s _ _ (whole-read w) (falls _ _ (whole-stamp w) h l))
+  given-refused (row-8 p w h) = refused-at p (λ n. unadmitted n s _ _ (whole-read w) (too-late _ _ h))
+  given-refused (row-9 p w h l) = refused-at p (λ n. unadmitted n s _ _ (whole-read w) (falls _ _ h l))
   given-refused (row-10 p w t e l) = refused-at p (λ n. surplus n s _ _ (whole-read w) (whole-admitted w t) (whole-end w ∙ eq-eqb _ _ e) l)
   given-refused (row-11 p) = refused-at p (λ n. over n s _ _ (omega arith))
 
@@ -94,7 +94,7 @@ module _ (s : List ℕ) where
       means-timely w t =
           let e = whole-read w in
           let a = whole-admitted w t in
-          by-test (Means at o) (isEnd (valueAt s at)) _ _
+          by-test (Means at o) (isEnd (valueAt s at .what)) _ _
           (λ i. by-test (Means at o) (ltb (afterAt s at) (length s)) _ _
           (λ l. row-10 p w t (eqb-true _ _ (sym (whole-end w) ∙ i)) (ltb-true _ _ l))
           (λ l. let q : afterAt s at ≡ length s = omega (arith, w .fits, ltb-false (afterAt s at) (length s) l) in
@@ -106,7 +106,7 @@ module _ (s : List ℕ) where
       means-read l =
           by-field s at (λ (r : FieldRead). Means at o (afterRead (walk n s) s at o r))
           (row-5-header p l) (row-6 p) (row-7 p) (row-5-value p)
-          (λ w. by-stamp o (valueAt s at) (whole-stamp w) after (row-8 p w) (row-9 p w) (λ h l. means-timely w (record { not-over = h; not-below = l })))
+          (λ w. by-stamp o (valueAt s at) after (row-8 p w) (row-9 p w) (λ h l. means-timely w (record { not-over = h; not-below = l })))
 
   walk-means : (n at : ℕ) (o : Order) → Prefix s at o → length s < at + n → Means at o (walk n s at o)
   unfolding walk

@@ -15,7 +15,7 @@ use Rattle.score.specs.declared.Checked.the-variants.{Accepted, Refused}
 use Rattle.score.specs.declared.Field.{Field}
 use Rattle.score.specs.declared.FieldRead.the-variants.{Got, Refused as Unread}
 use Rattle.score.specs.declared.Order.{Order}
-use Rattle.score.specs.Fields.{stampOf, isEnd, fieldAt}
+use Rattle.score.specs.Fields.{isEnd, fieldAt}
 use Rattle.score.specs.Scores.{Parsed, good, bad, push, afterRead, walk, scoreOf, answer, checked}
 use Rattle.score.specs.Stamps.{unstamped, admit}
 use Rattle.score.proofs.Fields.{stands}
@@ -40,20 +40,20 @@ module _ (n : ℕ) (s : List ℕ) (at : ℕ) (o : Order) where
     unadmitted a = rw (got, a)
 
     module _ {o′ : Order} (a : admit o f ≡ Next o′) where
-      pub surplus : isEnd f ≡ true → next < length s → walk (suc n) s at o ≡ bad (refused AfterEnd next)
+      pub surplus : isEnd (f .what) ≡ true → next < length s → walk (suc n) s at o ≡ bad (refused AfterEnd next)
       surplus i l = rw (got, a, i, lt-ltb next (length s) l)
 
-      pub ended : isEnd f ≡ true → length s ≤ next → walk (suc n) s at o ≡ good (f ∷ [])
+      pub ended : isEnd (f .what) ≡ true → length s ≤ next → walk (suc n) s at o ≡ good (f ∷ [])
       ended i l = rw (got, a, i, le-ltb next (length s) l)
 
-      pub onward : isEnd f ≡ false → walk (suc n) s at o ≡ push f (walk n s next o′)
+      pub onward : isEnd (f .what) ≡ false → walk (suc n) s at o ≡ push f (walk n s next o′)
       onward i = rw (got, a, i)
 
-answer-push : (f : Field) (p : Parsed) → isEnd f ≡ false → answer (push f p) ≡ answer p
+answer-push : (f : Field) (p : Parsed) → isEnd (f .what) ≡ false → answer (push f p) ≡ answer p
 answer-push f (good fs) i = rw i
 answer-push f (bad r) i = refl
 
-pub answer-end : (f : Field) → isEnd f ≡ true → answer (good (f ∷ [])) ≡ Accepted (stampOf f)
+pub answer-end : (f : Field) → isEnd (f .what) ≡ true → answer (good (f ∷ [])) ≡ Accepted (f .stamp)
 answer-end f i = rw i
 
 pub too-long : (s : List ℕ) → 65536 < length s → checked s ≡ Refused (refused ScoreLength 0)
@@ -71,7 +71,7 @@ unfolding checked scoreOf
 kept-first s h = record { fuel = length s; enough = omega arith; same = simp (le-ltb 65536 (length s) h) }
 
 module _ {s : List ℕ} {at : ℕ} {o : Order} (k : Kept s at o) where
-  pub kept-more : {f : Field} {next : ℕ} {o′ : Order} → fieldAt s at ≡ Got f next → admit o f ≡ Next o′ → isEnd f ≡ false → Kept s next o′
+  pub kept-more : {f : Field} {next : ℕ} {o′ : Order} → fieldAt s at ≡ Got f next → admit o f ≡ Next o′ → isEnd (f .what) ≡ false → Kept s next o′
   kept-more {f} {next} {o′} e a i = go (k .fuel) (k .enough) (k .same)
     where
       go : (n : ℕ) → length s - at ≤ n → answer (walk (suc n) s at o) ≡ checked s → Kept s next o′

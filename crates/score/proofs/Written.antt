@@ -8,28 +8,27 @@ use lib.ListN.{length, drop, length-drop, length-append}
 use lib.Seq.{drop-drop, drop-length, getD-drop, drop-append-seam}
 use Rattle.words.proofs.Bytes.{length-bytes, byte-number, byte-first, number-bytes, bytes-number}
 use Rattle.words.specs.Words.{Bytes, numberAt, bytesOf}
-use Rattle.score.specs.declared.Admitted.{Admitted}
-use Rattle.score.specs.declared.Admitted.the-variants.{Next}
 use Rattle.score.specs.declared.Field.{Field}
-use Rattle.score.specs.declared.Field.the-variants.{Write, Read, Levels, End}
 use Rattle.score.specs.declared.FieldRead.the-variants.{Got}
 use Rattle.score.specs.declared.Order.{Order}
-use Rattle.score.specs.Fields.{lenOf, valueOf, fieldAt, tagOf, stampOf, restOf, written, allWritten}
+use Rattle.score.specs.declared.What.{What}
+use Rattle.score.specs.declared.What.the-variants.{Write, Read, Levels, End}
+use Rattle.score.specs.Fields.{lenOf, whatOf, stamped, valueOf, fieldAt, tagOf, restOf, written, allWritten}
 use Rattle.score.specs.Scores.{good, scoreOf, Chain, ends, goes}
-use Rattle.score.specs.Stamps.{unstamped, admit, InOrder, closed, opened}
+use Rattle.score.specs.Stamps.{unstamped, InOrder, closed, opened}
 use Rattle.score.proofs.Chains.{score-chain, chain-score}
 use Rattle.score.proofs.Fields.{field-whole, stands, tags}
-use Rattle.score.proofs.Stamps.{by-stamp}
+use Rattle.score.proofs.Stamps.{admits}
 
 -- ---- a field that was read is the bytes at its place
 
 -- what the value v of a field says
 record Value (tag : ℕ) (v : List ℕ) : Type 0 where
-  tag-is : tagOf (valueOf tag v) ≡ tag
-  bytes : v ≡ bytesOf 4 (stampOf (valueOf tag v)) ++ (restOf (valueOf tag v) ++ drop (lenOf tag) v)
+  tag-is : tagOf (whatOf tag v) ≡ tag
+  bytes : v ≡ bytesOf 4 (numberAt 4 v 0) ++ (restOf (whatOf tag v) ++ drop (lenOf tag) v)
 
 value-bytes : (v : List ℕ) → Bytes v → (tag : ℕ) → (lenOf tag ≡ 0 → ⊥) → lenOf tag ≤ length v → Value tag v
-unfolding lenOf valueOf
+unfolding lenOf whatOf
 value-bytes v small =
     let stamp = number-bytes v small 4 0 in
     tags (λ (tag : ℕ). lenOf tag ≤ length v → Value tag v)
@@ -39,9 +38,9 @@ value-bytes v small =
     (λ h. record { tag-is = refl; bytes = stamp (omega arith) })
 
 -- the pieces of a field's bytes, before the bytes ys
-parts : (f : Field) (ys : List ℕ) → written f ++ ys ≡ tagOf f ∷ (bytesOf 2 (lenOf (tagOf f)) ++ (bytesOf 4 (stampOf f) ++ (restOf f ++ ys)))
+parts : (t : ℕ) (w : What) (ys : List ℕ) → written (stamped t w) ++ ys ≡ tagOf w ∷ (bytesOf 2 (lenOf (tagOf w)) ++ (bytesOf 4 t ++ (restOf w ++ ys)))
 unfolding written
-parts f ys = simp append-assoc
+parts t w ys = simp append-assoc
 
 module _ (s : List ℕ) (small : Bytes s) where
   pub field-bytes : (at : ℕ) {f : Field} {next : ℕ} → fieldAt s at ≡ Got f next → drop at s ≡ written f ++ drop next s
@@ -50,52 +49,54 @@ module _ (s : List ℕ) (small : Bytes s) where
       let tag = numberAt 1 s at in
       let v = drop (at + 3) s in
       let b : Value tag v = value-bytes v (λ i. rw (getD-drop (at + 3) s i 0) (small (at + 3 + i))) tag (st .whole .known) (omega (arith, length-drop (at + 3) s)) in
-      let t : tagOf f ≡ tag = ap tagOf (st .field) ∙ b .tag-is in
+      let t : tagOf (f .what) ≡ tag = ap (λ (g : Field). tagOf (g .what)) (st .field) ∙ b .tag-is in
       let p : at + 1 + 2 ≡ at + 3 = omega arith in
-      let w : v ≡ bytesOf 4 (stampOf f) ++ (restOf f ++ drop next s) = rw (st .field, st .ends, ← drop-drop (lenOf tag) (at + 3) s) (b .bytes) in
-      rw (parts f (drop next s), t, byte-first s at (omega arith), number-bytes s small 2 (at + 1) (omega arith), st .whole .says, p)
+      let w : v ≡ bytesOf 4 (f .stamp) ++ (restOf (f .what) ++ drop next s) = rw (st .field, st .ends, ← drop-drop (lenOf tag) (at + 3) s) (b .bytes) in
+      rw (parts (f .stamp) (f .what) (drop next s), t, byte-first s at (omega arith), number-bytes s small 2 (at + 1) (omega arith), st .whole .says, p)
       (ap (λ (x : List ℕ). tag ∷ (bytesOf 2 (lenOf tag) ++ x)) w)
 
 -- ---- a field that was written is read back
 
-record Shape (f : Field) : Type 0 where
-  four : 4 ≤ lenOf (tagOf f)
-  six : lenOf (tagOf f) ≤ 6
-  long : length (written f) ≡ 3 + lenOf (tagOf f)
+record Shape (t : ℕ) (w : What) : Type 0 where
+  four : 4 ≤ lenOf (tagOf w)
+  six : lenOf (tagOf w) ≤ 6
+  long : length (written (stamped t w)) ≡ 3 + lenOf (tagOf w)
 
-shape : (f : Field) → Shape f
+shape : (t : ℕ) (w : What) → Shape t w
 unfolding lenOf written bytesOf
-shape (Write t a v) = record { four = omega arith; six = omega arith; long = refl }
-shape (Read t a) = record { four = omega arith; six = omega arith; long = refl }
-shape (Levels t) = record { four = omega arith; six = omega arith; long = refl }
-shape (End t) = record { four = omega arith; six = omega arith; long = refl }
+shape t (Write a v) = record { four = omega arith; six = omega arith; long = refl }
+shape t (Read a) = record { four = omega arith; six = omega arith; long = refl }
+shape t Levels = record { four = omega arith; six = omega arith; long = refl }
+shape t End = record { four = omega arith; six = omega arith; long = refl }
 
 module _ (ys : List ℕ) where
-  abbrev value : Field → List ℕ
-  value f = bytesOf 4 (stampOf f) ++ (restOf f ++ ys)
+  abbrev value : ℕ → What → List ℕ
+  value t w = bytesOf 4 t ++ (restOf w ++ ys)
 
-  value-back : (f : Field) → stampOf f < 2 ^ 32 → valueOf (tagOf f) (value f) ≡ f
-  unfolding valueOf bytesOf
-  value-back f l = go f (bytes-number (value f) 4 0 (stampOf f) (restOf f ++ ys) refl (omega (arith, length-append (bytesOf 4 (stampOf f)) (restOf f ++ ys), length-bytes 4 (stampOf f))) l)
-    where
-      go : (f : Field) → numberAt 4 (value f) 0 ≡ stampOf f → valueOf (tagOf f) (value f) ≡ f
-      go (Write t a v) e = rw (e, byte-number (value (Write t a v)) 4 (omega arith), byte-number (value (Write t a v)) 5 (omega arith))
-      go (Read t a) e = rw (e, byte-number (value (Read t a)) 4 (omega arith))
-      go (Levels t) e = ap Levels e
-      go (End t) e = ap End e
+  stamp-back : (t : ℕ) (w : What) → t < 2 ^ 32 → numberAt 4 (value t w) 0 ≡ t
+  stamp-back t w = bytes-number (value t w) 4 0 t (restOf w ++ ys) refl (omega (arith, length-append (bytesOf 4 t) (restOf w ++ ys), length-bytes 4 t))
 
-  pub field-back : (s : List ℕ) (at : ℕ) (f : Field) → stampOf f < 2 ^ 32 → drop at s ≡ written f ++ ys → fieldAt s at ≡ Got f (at + length (written f))
+  what-back : (t : ℕ) (w : What) → whatOf (tagOf w) (value t w) ≡ w
+  unfolding whatOf bytesOf
+  what-back t (Write a v) = rw (byte-number (value t (Write a v)) 4 (omega arith), byte-number (value t (Write a v)) 5 (omega arith))
+  what-back t (Read a) = rw (byte-number (value t (Read a)) 4 (omega arith))
+  what-back t Levels = refl
+  what-back t End = refl
+
+  pub field-back : (s : List ℕ) (at : ℕ) (f : Field) → f .stamp < 2 ^ 32 → drop at s ≡ written f ++ ys → fieldAt s at ≡ Got f (at + length (written f))
   unfolding bytesOf
   field-back s at f l e =
-      let sh = shape f in
-      let n = lenOf (tagOf f) in
-      let d : drop at s ≡ tagOf f ∷ (bytesOf 2 n ++ value f) = e ∙ parts f ys in
+      let w = f .what in
+      let v = value (f .stamp) w in
+      let sh = shape (f .stamp) w in
+      let n = lenOf (tagOf w) in
+      let d : drop at s ≡ tagOf w ∷ (bytesOf 2 n ++ v) = e ∙ parts (f .stamp) w ys in
       let long : length s ≡ at + length (written f) + length ys = omega (arith, length-drop at s, ap length e, length-append (written f) ys) in
-      let t : numberAt 1 s at ≡ tagOf f = cc (byte-first s at (omega arith)) in
-      let says : numberAt 2 s (at + 1) ≡ n = bytes-number s 2 (at + 1) n (value f) (sym (drop-drop 1 at s) ∙ ap (drop 1) d) (omega arith) (omega arith) in
-      let v : drop (at + 3) s ≡ value f = sym (drop-drop 3 at s) ∙ ap (drop 3) d in
+      let t : numberAt 1 s at ≡ tagOf w = cc (byte-first s at (omega arith)) in
+      let says : numberAt 2 s (at + 1) ≡ n = bytes-number s 2 (at + 1) n v (sym (drop-drop 1 at s) ∙ ap (drop 1) d) (omega arith) (omega arith) in
+      let rest : drop (at + 3) s ≡ v = sym (drop-drop 3 at s) ∙ ap (drop 3) d in
       field-whole s at (omega arith) (ap lenOf (sym t)) (λ z. omega arith) says (omega arith)
-      ∙ ap₂ Got (ap₂ valueOf t v ∙ value-back f l) (omega arith)
+      ∙ ap₂ Got (ap₂ valueOf t rest ∙ ap₂ stamped (stamp-back (f .stamp) w l) (what-back (f .stamp) w)) (omega arith)
 
 -- ---- scores
 
@@ -112,20 +113,15 @@ chain-order (goes e a i r) = opened a i (chain-order r)
 pub score-bytes : {s : List ℕ} {fs : List Field} → Bytes s → scoreOf s ≡ good fs → (s ≡ allWritten fs) × InOrder unstamped fs × (length s ≤ 65536)
 score-bytes {s} small e = let c = score-chain s e in (chain-bytes small (c .0), chain-order (c .0), c .1)
 
-admitted-le : (o : Order) (f : Field) (o′ : Order) → admit o f ≡ Next o′ → stampOf f ≤ 100000000
-admitted-le o f o′ =
-    by-stamp o f refl (λ (a : Admitted). a ≡ Next o′ → stampOf f ≤ 100000000)
-    (λ _ e. let z : _≡_ {A = ℕ} 0 1 = cc in absurd (omega arith)) (λ h _ _. h) (λ h _ _. h)
-
 order-chain : {o : Order} {fs : List Field} → InOrder o fs → (s : List ℕ) (at : ℕ) → drop at s ≡ allWritten fs → Chain s at o fs
 unfolding allWritten
-order-chain {o} (closed {o′ = o′} {f = f} a i) s at e =
-    let l = admitted-le o f o′ a in
-    let sh = shape f in
+order-chain (closed {f = f} a i) s at e =
+    let l = admits a .not-over in
+    let sh = shape (f .stamp) (f .what) in
     let q : at + length (written f) ≡ length s = omega (arith, length-drop at s, ap length e, length-append (written f) []) in
     ends (field-back [] s at f (omega arith) e ∙ ap (Got f) q) a i
-order-chain {o} (opened {o′ = o′} {f = f} {fs = fs} a i r) s at e =
-    let l = admitted-le o f o′ a in
+order-chain (opened {f = f} {fs = fs} a i r) s at e =
+    let l = admits a .not-over in
     goes (field-back (allWritten fs) s at f (omega arith) e) a i
     (order-chain r s (at + length (written f)) (sym (drop-drop (length (written f)) at s) ∙ (ap (drop (length (written f))) e ∙ drop-append-seam (written f) (allWritten fs))))
 

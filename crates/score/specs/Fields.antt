@@ -9,20 +9,26 @@ use Rattle.refusals.specs.declared.Refusal.{Refusal}
 use Rattle.refusals.specs.declared.Refusal.the-variants.{FieldCut, UnknownTag, FieldLength}
 use Rattle.words.specs.Words.{numberAt, bytesOf}
 use Rattle.score.specs.declared.Field.{Field}
-use Rattle.score.specs.declared.Field.the-variants.{Write, Read, Levels, End}
 use Rattle.score.specs.declared.FieldRead.{FieldRead}
 use Rattle.score.specs.declared.FieldRead.the-variants.{Got, Refused}
+use Rattle.score.specs.declared.What.{What}
+use Rattle.score.specs.declared.What.the-variants.{Write, Read, Levels, End}
 
 -- '0x01 write, length 6', '0x02 read, length 5', '0x03 levels, length 4', '0x7f end, length 4'; 0 of an unknown tag
 unfoldable pub lenOf : ℕ → ℕ
 lenOf tag = cond (eqb tag 0x01) 6 (cond (eqb tag 0x02) 5 (cond (eqb tag 0x03) 4 (cond (eqb tag 0x7f) 4 0)))
 
--- the field of a known tag, v beginning with its value: 'stamp in 4 bytes, address, value'
-unfoldable pub valueOf : ℕ → List ℕ → Field
-valueOf tag v =
-    cond (eqb tag 0x01) (Write (numberAt 4 v 0) (numberAt 1 v 4) (numberAt 1 v 5))
-    (cond (eqb tag 0x02) (Read (numberAt 4 v 0) (numberAt 1 v 4))
-    (cond (eqb tag 0x03) (Levels (numberAt 4 v 0)) (End (numberAt 4 v 0))))
+abbrev pub stamped : ℕ → What → Field
+stamped stamp what = record { stamp = stamp; what = what }
+
+-- what a known tag asks for, and its field, v beginning with its value: 'stamp in 4 bytes, address, value'
+unfoldable pub whatOf : ℕ → List ℕ → What
+whatOf tag v =
+    cond (eqb tag 0x01) (Write (numberAt 1 v 4) (numberAt 1 v 5))
+    (cond (eqb tag 0x02) (Read (numberAt 1 v 4)) (cond (eqb tag 0x03) Levels End))
+
+abbrev pub valueOf : ℕ → List ℕ → Field
+valueOf tag v = stamped (numberAt 4 v 0) (whatOf tag v)
 
 abbrev pub refuse : Refusal → ℕ → FieldRead
 refuse why place = Refused (refused why place)
@@ -53,34 +59,28 @@ fieldAt s at =
     (cond (ltb (length s) (afterAt s at)) (refuse FieldCut at)
     (Got (valueAt s at) (afterAt s at)))))
 
-abbrev pub tagOf : Field → ℕ
-tagOf (Write t a v) = 0x01
-tagOf (Read t a) = 0x02
-tagOf (Levels t) = 0x03
-tagOf (End t) = 0x7f
+abbrev pub tagOf : What → ℕ
+tagOf (Write a v) = 0x01
+tagOf (Read a) = 0x02
+tagOf Levels = 0x03
+tagOf End = 0x7f
 
-abbrev pub stampOf : Field → ℕ
-stampOf (Write t a v) = t
-stampOf (Read t a) = t
-stampOf (Levels t) = t
-stampOf (End t) = t
-
-abbrev pub isEnd : Field → Bool
-isEnd (Write t a v) = false
-isEnd (Read t a) = false
-isEnd (Levels t) = false
-isEnd (End t) = true
+abbrev pub isEnd : What → Bool
+isEnd (Write a v) = false
+isEnd (Read a) = false
+isEnd Levels = false
+isEnd End = true
 
 -- what follows the stamp
-abbrev pub restOf : Field → List ℕ
-restOf (Write t a v) = a ∷ v ∷ []
-restOf (Read t a) = a ∷ []
-restOf (Levels t) = []
-restOf (End t) = []
+abbrev pub restOf : What → List ℕ
+restOf (Write a v) = a ∷ v ∷ []
+restOf (Read a) = a ∷ []
+restOf Levels = []
+restOf End = []
 
 -- a field's bytes
 unfoldable pub written : Field → List ℕ
-written f = tagOf f ∷ (bytesOf 2 (lenOf (tagOf f)) ++ (bytesOf 4 (stampOf f) ++ restOf f))
+written f = tagOf (f .what) ∷ (bytesOf 2 (lenOf (tagOf (f .what))) ++ (bytesOf 4 (f .stamp) ++ restOf (f .what)))
 
 -- the bytes of fields, one after the other
 unfoldable pub allWritten : List Field → List ℕ

@@ -16,7 +16,7 @@ use Rattle.score.specs.declared.Field.{Field}
 use Rattle.score.specs.declared.FieldRead.{FieldRead}
 use Rattle.score.specs.declared.FieldRead.the-variants.{Got, Refused as Unread}
 use Rattle.score.specs.declared.Order.{Order}
-use Rattle.score.specs.Fields.{fieldAt, stampOf, isEnd}
+use Rattle.score.specs.Fields.{fieldAt, isEnd}
 use Rattle.score.specs.Stamps.{unstamped, admit}
 
 -- the fields of an accepted score in file order, the end last; or the refusal
@@ -33,7 +33,7 @@ push f (bad r) = bad r
 abbrev pub afterAdmit : (ℕ → Order → Parsed) → List ℕ → ℕ → Field → ℕ → Admitted → Parsed
 afterAdmit go s at f next (Unadmitted why) = bad (refused why at)
 afterAdmit go s at f next (Next o) =
-    cond (isEnd f) (cond (ltb next (length s)) (bad (refused AfterEnd next)) (good (f ∷ []))) (push f (go next o))
+    cond (isEnd (f .what)) (cond (ltb next (length s)) (bad (refused AfterEnd next)) (good (f ∷ []))) (push f (go next o))
 
 -- a field that was read: '8, 9' next, at the tag
 abbrev pub afterRead : (ℕ → Order → Parsed) → List ℕ → ℕ → Order → FieldRead → Parsed
@@ -53,7 +53,7 @@ scoreOf s = cond (ltb 65536 (length s)) (bad (refused ScoreLength 0)) (walk (suc
 -- the stamp of the end field
 abbrev pub clocksOf : List Field → ℕ
 clocksOf [] = 0
-clocksOf (f ∷ fs) = cond (isEnd f) (stampOf f) (clocksOf fs)
+clocksOf (f ∷ fs) = cond (isEnd (f .what)) (f .stamp) (clocksOf fs)
 
 -- 'The score is checked whole before the first clock': what the check answers
 abbrev pub answer : Parsed → Checked
@@ -79,12 +79,12 @@ pub data Chain (s : List ℕ) : ℕ → Order → List Field → Type 0 where
       : {at : ℕ} {o o′ : Order} {f : Field}
       → fieldAt s at ≡ Got f (length s)
       → admit o f ≡ Next o′
-      → isEnd f ≡ true
+      → isEnd (f .what) ≡ true
       → Chain s at o (f ∷ [])
   goes
       : {at : ℕ} {o : Order} {next : ℕ} {o′ : Order} {f : Field} {fs : List Field}
       → fieldAt s at ≡ Got f next
       → admit o f ≡ Next o′
-      → isEnd f ≡ false
+      → isEnd (f .what) ≡ false
       → Chain s next o′ fs
       → Chain s at o (f ∷ fs)

@@ -9,7 +9,7 @@ use Rattle.score.specs.declared.Admitted.{Admitted}
 use Rattle.score.specs.declared.Admitted.the-variants.{Next, Refused}
 use Rattle.score.specs.declared.Field.{Field}
 use Rattle.score.specs.declared.Order.{Order}
-use Rattle.score.specs.Fields.{stampOf, isEnd}
+use Rattle.score.specs.Fields.{isEnd}
 
 -- before the first field
 abbrev pub unstamped : Order
@@ -19,10 +19,10 @@ unstamped = record { last = 0 }
 -- stamp'
 unfoldable pub admit : Order → Field → Admitted
 admit o f =
-    cond (ltb 100000000 (stampOf f)) (Refused StampTooLate)
-    (cond (ltb (stampOf f) (o .last)) (Refused StampFalls) (Next (record { last = stampOf f })))
+    cond (ltb 100000000 (f .stamp)) (Refused StampTooLate)
+    (cond (ltb (f .stamp) (o .last)) (Refused StampFalls) (Next (record { last = f .stamp })))
 
 -- fields that make a score: each is admitted after the one before it, and the last alone is an end
 pub data InOrder : Order → List Field → Type 0 where
-  closed : {o o′ : Order} {f : Field} → admit o f ≡ Next o′ → isEnd f ≡ true → InOrder o (f ∷ [])
-  opened : {o o′ : Order} {f : Field} {fs : List Field} → admit o f ≡ Next o′ → isEnd f ≡ false → InOrder o′ fs → InOrder o (f ∷ fs)
+  closed : {o o′ : Order} {f : Field} → admit o f ≡ Next o′ → isEnd (f .what) ≡ true → InOrder o (f ∷ [])
+  opened : {o o′ : Order} {f : Field} {fs : List Field} → admit o f ≡ Next o′ → isEnd (f .what) ≡ false → InOrder o′ fs → InOrder o (f ∷ fs)

@@ -5,51 +5,38 @@ use refusals::Refused;
 ghost use mathlib.Core.Path.{_≡_};
 ghost use Prim.Native.Nat.{_-_};
 ghost use lib.ListN.{length};
-ghost use Rattle.score.specs.Fields.{lenOf, valueOf, refuse, fieldAt, stampOf, isEnd};
+ghost use Rattle.score.specs.Fields.{lenOf, whatOf, valueOf, refuse, fieldAt, isEnd};
 ghost use Rattle.score.specs.Stamps.{unstamped, admit};
 ghost use Rattle.score.specs.Scores.{checked, verdict};
 ghost use Rattle.score.specs.Given.{Judged};
 
-pub enum Field {
-    Write { stamp: u32, address: u8, value: u8 },
-    Read { stamp: u32, address: u8 },
-    Levels { stamp: u32 },
-    End { stamp: u32 },
+// What a field asks for, without its stamp.
+pub enum What {
+    Write { address: u8, value: u8 },
+    Read { address: u8 },
+    Levels,
+    End,
 }
 
-impl Field {
-    pub fn stamp(self) -> u32
-        ensures { λ r. ⌜ r ≡ stampOf self ⌝ }
-    {
-        match self {
-            Field::Write {
-                stamp,
-                address: _,
-                value: _,
-            } => stamp,
-            Field::Read { stamp, address: _ } => stamp,
-            Field::Levels { stamp } => stamp,
-            Field::End { stamp } => stamp,
-        }
-    }
-
+impl What {
     pub fn is_end(self) -> bool
         ensures { λ r. ⌜ r ≡ isEnd self ⌝ }
     {
         match self {
-            Field::Write {
-                stamp: _,
+            What::Write {
                 address: _,
                 value: _,
             } => false,
-            Field::Read {
-                stamp: _,
-                address: _,
-            } => false,
-            Field::Levels { stamp: _ } => false,
-            Field::End { stamp: _ } => true,
+            What::Read { address: _ } => false,
+            What::Levels => false,
+            What::End => true,
         }
     }
+}
+
+pub struct Field {
+    pub stamp: u32,
+    pub what: What,
 }
 
 // A field and the place after it, or the refusal.
@@ -71,24 +58,30 @@ fn len_of(tag: u8) -> usize
     }
 }
 
+// What a known tag asks for, its value standing first in v.
+fn what_of(tag: u8, v: &[u8]) -> What
+    ensures { λ r. ⌜ r ≡ whatOf tag (now (v .entry)) ⌝ }
+{
+    match tag {
+        0x01 => What::Write {
+            address: words::u8_at(v, 4),
+            value: words::u8_at(v, 5),
+        },
+        0x02 => What::Read {
+            address: words::u8_at(v, 4),
+        },
+        0x03 => What::Levels,
+        _ => What::End,
+    }
+}
+
 // The field of a known tag, whose value stands first in v.
 fn value_of(tag: u8, v: &[u8]) -> Field
     ensures { λ r. ⌜ r ≡ valueOf tag (now (v .entry)) ⌝ }
 {
     let stamp = words::u32_at(v, 0);
-    match tag {
-        0x01 => Field::Write {
-            stamp,
-            address: words::u8_at(v, 4),
-            value: words::u8_at(v, 5),
-        },
-        0x02 => Field::Read {
-            stamp,
-            address: words::u8_at(v, 4),
-        },
-        0x03 => Field::Levels { stamp },
-        _ => Field::End { stamp },
-    }
+    let what = what_of(tag, v);
+    Field { stamp, what }
 }
 
 fn bytes_left(s: &[u8], at: usize) -> usize
@@ -152,14 +145,13 @@ pub enum Admitted {
 pub fn admit(o: Order, f: Field) -> Admitted
     ensures { λ r. ⌜ r ≡ admit o f ⌝ }
 {
-    let stamp = f.stamp();
-    if 100_000_000 < stamp {
+    if 100_000_000 < f.stamp {
         return Admitted::Refused(Refusal::StampTooLate);
     }
-    if stamp < o.last {
+    if f.stamp < o.last {
         return Admitted::Refused(Refusal::StampFalls);
     }
-    Admitted::Next(Order { last: stamp })
+    Admitted::Next(Order { last: f.stamp })
 }
 
 pub enum Checked {
@@ -195,14 +187,15 @@ pub fn check_score(s: &[u8]) -> Checked
                     break Checked::Refused(Refused { why, place: at });
                 }
                 Admitted::Next(o) => {
-                    if f.is_end() {
+                    let what = f.what;
+                    if what.is_end() {
                         if next < s.len() {
                             break Checked::Refused(Refused {
                                 why: Refusal::AfterEnd,
                                 place: next,
                             });
                         }
-                        break Checked::Accepted { clocks: f.stamp() };
+                        break Checked::Accepted { clocks: f.stamp };
                     }
                     at = next;
                     order = o;

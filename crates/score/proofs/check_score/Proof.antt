@@ -2,9 +2,8 @@
 use borrow.Author.Needs.{needs}
 use native.Mathlib.Omega.{arith}
 use Prim.Native.Nat.{_-_}
-use mathlib.Core.Path.{ap, sym, _∙_}
+use mathlib.Core.Path.{sym, _∙_}
 use lib.ListN.{length}
-use Rattle.score.specs.declared.Checked.the-variants.{Accepted}
 use Rattle.score.proofs.Fields.{stands}
 use Rattle.score.proofs.Given.{promised}
 use Rattle.score.proofs.Walk.{over, unread, unadmitted, surplus, ended, answer-end, too-long, Kept, kept-first, kept-more, kept-end}
@@ -47,9 +46,6 @@ enum-known-o c = search needs
 is-end-requires : tie.Need-is-end-requires Inv-loop μ-loop
 is-end-requires c κs = search needs
 
-stamp-requires : tie.Need-stamp-requires Inv-loop μ-loop
-stamp-requires c κs = search needs
-
 loop-less : tie.Need-loop-less Inv-loop μ-loop
 loop-less c =
     let e = sym (c .before .before .before .before .before .before .before .before .before .field-at .ensures) ∙ c .before .before .before .before .before .before .before .f .given .1 in
@@ -85,11 +81,11 @@ returns-5 c =
 
 returns-6 : tie.Need-returns-6 Inv-loop μ-loop
 returns-6 c =
-    let e = sym (c .before .before .before .before .before .before .before .before .before .before .before .field-at .ensures) ∙ c .before .before .before .before .before .before .before .before .before .f .given .1 in
-    let a = sym (c .before .before .before .before .before .before .before .admit .ensures) ∙ c .before .before .before .before .before .o .given .1 in
-    let i = sym (c .before .before .before .is-end .ensures) ∙ c .before .before .if3 .taken in
-    let whole = kept-end (c .before .before .before .before .before .before .before .before .before .before .before .before .before .loop .inv) (λ n. ended n _ _ _ e a i (omega arith)) in
-    promised _ (ap Accepted (c .stamp .ensures) ∙ (sym (answer-end (c .before .before .before .before .before .before .before .before .before .f .given .0 .0) i) ∙ whole))
+    let e = sym (c .before .before .before .before .before .before .before .before .before .before .field-at .ensures) ∙ c .before .before .before .before .before .before .before .before .f .given .1 in
+    let a = sym (c .before .before .before .before .before .before .admit .ensures) ∙ c .before .before .before .before .o .given .1 in
+    let i = sym (c .before .before .is-end .ensures) ∙ c .before .if3 .taken in
+    let whole = kept-end (c .before .before .before .before .before .before .before .before .before .before .before .before .loop .inv) (λ n. ended n _ _ _ e a i (omega arith)) in
+    promised _ (sym (answer-end (c .before .before .before .before .before .before .before .before .f .given .0 .0) i) ∙ whole)
 
 pub check-score-spec : {M : Type 1} → statement M
 check-score-spec =
@@ -107,7 +103,6 @@ check-score-spec =
     enum-known-why
     enum-known-o
     is-end-requires
-    stamp-requires
     loop-less
     loop-again
     returns-2

@@ -1,47 +1,18 @@
--- `value_of` gives the field of a known tag: its stamp, of a write its address and value, of a read its address.
+-- `value_of` gives the field of a known tag: its stamp, and what it asks for.
 use borrow.Author.Needs.{needs}
-use borrow.Author.Tests.{ne-eqb}
-use Rattle.score.specs.Fields.{valueOf}
+use mathlib.Core.Path.{ap₂}
+use Rattle.score.specs.Fields.{stamped}
 use Rattle.score.proofs.value_of.Statement.{statement}
 use Rattle.score.proofs.value_of.Tie as tie
 
 u32-at-requires : tie.Need-u32-at-requires
 u32-at-requires c κs = search needs
 
-u8-at-requires : tie.Need-u8-at-requires
-u8-at-requires c κs = search needs
-
-u8-at-requires-2 : tie.Need-u8-at-requires-2
-u8-at-requires-2 c κs = search needs
-
-u8-at-requires-3 : tie.Need-u8-at-requires-3
-u8-at-requires-3 c κs = search needs
+what-of-requires : tie.Need-what-of-requires
+what-of-requires c κs = search needs
 
 returns : tie.Need-returns
-unfolding valueOf
-returns c = rw (c .before .before .match .keys1, c .before .before .before .u32-at .ensures, c .before .u8-at .ensures, c .u8-at2 .ensures)
-
-returns-2 : tie.Need-returns-2
-unfolding valueOf
-returns-2 c = rw (c .before .match .keys2, c .before .before .u32-at .ensures, c .u8-at3 .ensures)
-
-returns-3 : tie.Need-returns-3
-unfolding valueOf
-returns-3 c = rw (c .match .keys3, c .before .u32-at .ensures)
-
-returns-4 : tie.Need-returns-4
-unfolding valueOf
-returns-4 c = simp (ne-eqb _ _ (c .match .rest .1), ne-eqb _ _ (c .match .rest .0 .1), ne-eqb _ _ (c .match .rest .0 .0 .1), c .before .u32-at .ensures)
+returns c = ap₂ stamped (c .before .u32-at .ensures) (c .what-of .ensures)
 
 pub value-of-spec : {M : Type 1} → statement M
-value-of-spec =
-    tie.close
-    (tie.spec
-    u32-at-requires
-    u8-at-requires
-    u8-at-requires-2
-    u8-at-requires-3
-    returns
-    returns-2
-    returns-3
-    returns-4)
+value-of-spec = tie.close (tie.spec u32-at-requires what-of-requires returns)
