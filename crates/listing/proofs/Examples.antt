@@ -4,14 +4,10 @@ use mathlib.Core.List.{[], _∷_}
 use mathlib.Core.Path.{_≡_, refl}
 use Rattle.refusals.specs.Refusals.{refused, told}
 use Rattle.refusals.specs.declared.Refusal.the-variants.{NoEnd}
-use Rattle.listing.specs.declared.Shown.{Shown}
 use Rattle.listing.specs.Text.{digits, decimal, hexDigit, hex2, hex3, opening, spaced, voice, readLine, levelsLine, endLine, refusedLine}
 
-abbrev shown : ℕ → ℕ → Shown
-shown code level = record { code = code; level = level }
-
 -- L 0 000 aa 000 aa 000 aa
-pub levels : levelsLine 0 (shown 0x000 0xaa) (shown 0x000 0xaa) (shown 0x000 0xaa) ≡ 76 ∷ 32 ∷ 48 ∷ 32 ∷ 48 ∷ 48 ∷ 48 ∷ 32 ∷ 97 ∷ 97 ∷ 32 ∷ 48 ∷ 48 ∷ 48 ∷ 32 ∷ 97 ∷ 97 ∷ 32 ∷ 48 ∷ 48 ∷ 48 ∷ 32 ∷ 97 ∷ 97 ∷ 10 ∷ []
+pub levels : levelsLine 0 0x000 0xaa 0x000 0xaa 0x000 0xaa ≡ 76 ∷ 32 ∷ 48 ∷ 32 ∷ 48 ∷ 48 ∷ 48 ∷ 32 ∷ 97 ∷ 97 ∷ 32 ∷ 48 ∷ 48 ∷ 48 ∷ 32 ∷ 97 ∷ 97 ∷ 32 ∷ 48 ∷ 48 ∷ 48 ∷ 32 ∷ 97 ∷ 97 ∷ 10 ∷ []
 unfolding levelsLine opening voice spaced hex2 hex3 hexDigit decimal digits
 levels = refl
 

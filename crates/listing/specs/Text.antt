@@ -7,7 +7,6 @@ use lib.Dec.{ltb, leb}
 use lib.ListN.{length}
 use lib.Seq.{sets}
 use Rattle.refusals.specs.Refusals.{Told}
-use Rattle.listing.specs.declared.Shown.{Shown}
 
 -- 'the lent memory afterwards': xs was put into l at `at`, r is the place after it, and m the list with it
 pub record Put (l : List ℕ) (at : ℕ) (xs : List ℕ) (r : ℕ) (m : List ℕ) : Type 0 where
@@ -66,20 +65,21 @@ unfoldable pub spaced : ℕ → List ℕ
 spaced b = space ++ hex2 b
 
 -- a voice's code and level
-unfoldable pub voice : Shown → List ℕ
-voice v = space ++ (hex3 (v .code) ++ spaced (v .level))
+unfoldable pub voice : ℕ → ℕ → List ℕ
+voice code level = space ++ (hex3 code ++ spaced level)
 
--- the room that a line is given: more bytes than any line has
-abbrev pub lineRoom : ℕ
-lineRoom = 64
+-- the room that a step of a player is given for its text: several lines, of which none has 64 bytes
+abbrev pub textRoom : ℕ
+textRoom = 512
 
 -- 'R stamp address read'; 82 is R
 unfoldable pub readLine : ℕ → ℕ → ℕ → List ℕ
 readLine stamp address value = opening 82 stamp ++ (spaced address ++ (spaced value ++ lineFeed))
 
 -- 'L stamp code level with code and level three times, voices 0 to 2'; 76 is L
-unfoldable pub levelsLine : ℕ → Shown → Shown → Shown → List ℕ
-levelsLine stamp v0 v1 v2 = opening 76 stamp ++ (voice v0 ++ (voice v1 ++ (voice v2 ++ lineFeed)))
+unfoldable pub levelsLine : ℕ → ℕ → ℕ → ℕ → ℕ → ℕ → ℕ → List ℕ
+levelsLine stamp code0 level0 code1 level1 code2 level2 =
+    opening 76 stamp ++ (voice code0 level0 ++ (voice code1 level1 ++ (voice code2 level2 ++ lineFeed)))
 
 -- 'E clocks'; 69 is E
 unfoldable pub endLine : ℕ → List ℕ

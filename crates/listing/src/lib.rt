@@ -1,20 +1,14 @@
-// The lines that `replay` prints (document 01, 'Score and program'), each put at the start of a lent buffer of `LINE`
+// The lines that `replay` prints (document 01, 'Score and program'), each put at the start of a lent buffer of `TEXT`
 // bytes.
 use refusals::Refused;
 ghost use mathlib.Core.Path.{_≡_};
 ghost use Prim.Native.Nat.{_+_, _≤_, _<_};
 ghost use lib.ListN.{length};
 ghost use Rattle.refusals.specs.Refusals.{told};
-ghost use Rattle.listing.specs.Text.{Put, fits, copied, one, decimal, hexDigit, hex2, hex3, opening, spaced, voice, lineRoom, readLine, levelsLine, endLine, refusedLine};
+ghost use Rattle.listing.specs.Text.{Put, fits, copied, one, decimal, hexDigit, hex2, hex3, opening, spaced, voice, textRoom, readLine, levelsLine, endLine, refusedLine};
 
-// More bytes than any line has.
-pub const LINE: usize = 64;
-
-// What an `L` line says of a voice.
-pub struct Shown {
-    pub code: u16,
-    pub level: u8,
-}
+// Room for what a step prints: several lines, of which none has 64 bytes.
+pub const TEXT: usize = 512;
 
 fn put(out: &mut [u8], at: usize, b: u8) -> usize
     requires { ⌜ at < length (now out) ⌝ }
@@ -114,17 +108,17 @@ fn put_spaced(out: &mut [u8], at: usize, b: u8) -> usize
     put_hex2(out, a, b)
 }
 
-fn put_voice(out: &mut [u8], at: usize, v: Shown) -> usize
+fn put_voice(out: &mut [u8], at: usize, code: u16, level: u8) -> usize
     requires { ⌜ at + 7 ≤ length (now out) ⌝ }
-    ensures { λ r. ⌜ Put (now (out .entry)) at (voice v) r (now (out .exit)) × (r ≡ at + 7) ⌝ }
+    ensures { λ r. ⌜ Put (now (out .entry)) at (voice code level) r (now (out .exit)) × (r ≡ at + 7) ⌝ }
 {
     let a = put(out, at, b' ');
-    let b = put_hex3(out, a, v.code);
-    put_spaced(out, b, v.level)
+    let b = put_hex3(out, a, code);
+    put_spaced(out, b, level)
 }
 
-pub fn read_line(out: &mut [u8; LINE], stamp: u32, address: u8, value: u8) -> usize
-    ensures { λ r. ⌜ Put (now (out .entry)) 0 (readLine stamp address value) r (now (out .exit)) × (r ≤ lineRoom) ⌝ }
+pub fn read_line(out: &mut [u8; TEXT], stamp: u32, address: u8, value: u8) -> usize
+    ensures { λ r. ⌜ Put (now (out .entry)) 0 (readLine stamp address value) r (now (out .exit)) × (r ≤ textRoom) ⌝ }
 {
     let a = put_opening(out, b'R', stamp);
     let b = put_spaced(out, a, address);
@@ -132,25 +126,34 @@ pub fn read_line(out: &mut [u8; LINE], stamp: u32, address: u8, value: u8) -> us
     put(out, c, b'\n')
 }
 
-pub fn levels_line(out: &mut [u8; LINE], stamp: u32, v0: Shown, v1: Shown, v2: Shown) -> usize
-    ensures { λ r. ⌜ Put (now (out .entry)) 0 (levelsLine stamp v0 v1 v2) r (now (out .exit)) × (r ≤ lineRoom) ⌝ }
+pub fn levels_line(
+    out: &mut [u8; TEXT],
+    stamp: u32,
+    code_0: u16,
+    level_0: u8,
+    code_1: u16,
+    level_1: u8,
+    code_2: u16,
+    level_2: u8,
+) -> usize
+    ensures { λ r. ⌜ Put (now (out .entry)) 0 (levelsLine stamp «code_0» «level_0» «code_1» «level_1» «code_2» «level_2») r (now (out .exit)) × (r ≤ textRoom) ⌝ }
 {
     let a = put_opening(out, b'L', stamp);
-    let b = put_voice(out, a, v0);
-    let c = put_voice(out, b, v1);
-    let d = put_voice(out, c, v2);
+    let b = put_voice(out, a, code_0, level_0);
+    let c = put_voice(out, b, code_1, level_1);
+    let d = put_voice(out, c, code_2, level_2);
     put(out, d, b'\n')
 }
 
-pub fn end_line(out: &mut [u8; LINE], clocks: u32) -> usize
-    ensures { λ r. ⌜ Put (now (out .entry)) 0 (endLine clocks) r (now (out .exit)) × (r ≤ lineRoom) ⌝ }
+pub fn end_line(out: &mut [u8; TEXT], clocks: u32) -> usize
+    ensures { λ r. ⌜ Put (now (out .entry)) 0 (endLine clocks) r (now (out .exit)) × (r ≤ textRoom) ⌝ }
 {
     let a = put_opening(out, b'E', clocks);
     put(out, a, b'\n')
 }
 
-pub fn refused_line(out: &mut [u8; LINE], r: Refused) -> usize
-    ensures { λ len. ⌜ Put (now (out .entry)) 0 (refusedLine (told r)) len (now (out .exit)) × (len ≤ lineRoom) ⌝ }
+pub fn refused_line(out: &mut [u8; TEXT], r: Refused) -> usize
+    ensures { λ len. ⌜ Put (now (out .entry)) 0 (refusedLine (told r)) len (now (out .exit)) × (len ≤ textRoom) ⌝ }
 {
     let why = r.why;
     let a = put_bytes(out, 0, b"refused ");

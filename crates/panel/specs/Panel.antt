@@ -1,12 +1,12 @@
 -- The panel: a chip and the clocks that it has run. Document 01, 'Score and program'.
 use Prim.Native.Nat.{ℕ, _+_, _-_}
-use Rattle.listing.specs.declared.Shown.{Shown}
 use Rattle.sid.specs.declared.Mos6581.{Mos6581}
 use Rattle.sid.specs.declared.Voice.{Voice}
 use Rattle.sid.specs.Sid.{fresh as Sid·fresh, ticks, written as Sid·written, readAt, codeOf, levelOf, named, Told, code, level, held, refused}
 use Rattle.panel.specs.declared.Display.{Display}
 use Rattle.panel.specs.declared.Panel.{Panel}
 use Rattle.panel.specs.declared.PanelRead.{PanelRead}
+use Rattle.panel.specs.declared.Shown.{Shown}
 
 -- 'a fresh chip', after no clock
 abbrev pub fresh : Panel

@@ -1,5 +1,4 @@
 // The panel that plays a score (document 01, 'Score and program'): a chip, and the clocks that it has run.
-use listing::Shown;
 use sid::Answer;
 use sid::Mos6581;
 ghost use mathlib.Core.Path.{_≡_};
@@ -14,6 +13,12 @@ pub struct Panel {
 pub struct PanelRead {
     pub panel: Panel,
     pub byte: u8,
+}
+
+// What a voice gives: its code and its level.
+pub struct Shown {
+    pub code: u16,
+    pub level: u8,
 }
 
 // What an `L` line says of the three voices.
@@ -45,7 +50,7 @@ fn level_told(a: Answer) -> u8
     }
 }
 
-fn shown(chip: Mos6581, voice: u8) -> Shown
+fn shown_by(chip: Mos6581, voice: u8) -> Shown
     ensures { λ r. ⌜ r ≡ shownTold chip voice ⌝ }
 {
     let code = code_told(chip.code(voice));
@@ -105,9 +110,9 @@ impl Panel {
         ensures { λ r. ⌜ r ≡ levels self ⌝ }
     {
         let chip = self.chip;
-        let voice_0 = shown(chip, 0);
-        let voice_1 = shown(chip, 1);
-        let voice_2 = shown(chip, 2);
+        let voice_0 = shown_by(chip, 0);
+        let voice_1 = shown_by(chip, 1);
+        let voice_2 = shown_by(chip, 2);
         Display {
             voice_0,
             voice_1,

@@ -8,7 +8,7 @@ use mathlib.Core.Path.{_≡_, refl, ap, ap₂, sym, subst, _∙_}
 use lib.ListN.{length, take, drop, length-append}
 use lib.Seq.{sets, sets-eq, take-at, length-sets}
 use borrow.Author.Tests.{lt-ltb, le-ltb, le-leb}
-use Rattle.listing.specs.Text.{Put, copied, lineRoom}
+use Rattle.listing.specs.Text.{Put, copied, textRoom}
 use Rattle.listing.proofs.Joins.{then}
 use Rattle.player.specs.declared.Listed.the-variants.{Written, NoRoom}
 use Rattle.player.specs.declared.Player.{Player}
@@ -87,12 +87,12 @@ does-one {t} {l} {r} {r′} d d′ =
     let e : r .len ≡ r′ .len = d .put .place ∙ sym (d′ .put .place) in
     (ap₂ (λ (x : Player) (y : ℕ). record { player = x; len = y }) (d .player ∙ sym (d′ .player)) e, d .put .bytes ∙ sym (d′ .put .bytes))
 
-module _ {t : Turn} {l : List ℕ} {r : Stepped} {m : List ℕ} (d : Does t l r m) (e : length l ≡ lineRoom) where
+module _ {t : Turn} {l : List ℕ} {r : Stepped} {m : List ℕ} (d : Does t l r m) (e : length l ≡ textRoom) where
   -- a step's text, in the line that was lent
   line-is : take (r .len) m ≡ t .text
   line-is = take-put (d .put) (omega (arith, d .fits))
 
-  pub line-kept : length m ≡ lineRoom
+  pub line-kept : length m ≡ textRoom
   line-kept = ap length (d .put .bytes) ∙ (length-sets l 0 (t .text) ∙ e)
 
 pub len-first : (s : List ℕ) (p : Player) → p ≡ startOf s → length (lines mostSteps s p) ≡ length (listing s)
@@ -127,7 +127,7 @@ module _ {s : List ℕ} {p : Player} {steps : ℕ} {l : List ℕ} {q : Player} {
   pub made-more
       : {line : List ℕ} {r : Stepped} {line′ : List ℕ}
       → 0 < left
-      → length line ≡ lineRoom
+      → length line ≡ textRoom
       → Does (turn s q) line r line′
       → at + r .len ≤ length m
       → Made s p steps l (r .player) (left - 1) (at + r .len) (copied m at (take (r .len) line′))

@@ -3,6 +3,7 @@
 use Prim.Native.Nat.{ℕ}
 use mathlib.Core.List.{List, [], _∷_, _++_}
 use Rattle.listing.specs.Text.{readLine, levelsLine, endLine, refusedLine}
+use Rattle.panel.specs.declared.Display.{Display}
 use Rattle.panel.specs.declared.Panel.{Panel}
 use Rattle.panel.specs.Panel.{fresh, ranTo, written, readOf, levels}
 use Rattle.refusals.specs.Refusals.{told}
@@ -11,11 +12,17 @@ use Rattle.score.specs.declared.What.{What}
 use Rattle.score.specs.declared.What.the-variants.{Write, Read, Levels, End}
 use Rattle.score.specs.Scores.{Parsed, good, bad, scoreOf}
 
+-- 'code and level three times, voices 0 to 2'
+abbrev pub shownLine : ℕ → Display → List ℕ
+shownLine t d =
+    levelsLine t (d .«voice_0» .code) (d .«voice_0» .level) (d .«voice_1» .code) (d .«voice_1» .level)
+    (d .«voice_2» .code) (d .«voice_2» .level)
+
 -- 'Lines: R stamp address read, L stamp code level …, and E clocks': what a field prints of the panel at its stamp
 unfoldable pub lineOf : ℕ → What → Panel → List ℕ
 lineOf t (Write a v) p = []
 lineOf t (Read a) p = readLine t a (readOf p a .byte)
-lineOf t Levels p = levelsLine t (levels p .«voice_0») (levels p .«voice_1») (levels p .«voice_2»)
+lineOf t Levels p = shownLine t (levels p)
 lineOf t End p = endLine (p .clock)
 
 -- what a field does to the panel that has run to its stamp

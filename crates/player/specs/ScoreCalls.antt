@@ -4,12 +4,12 @@ use Prim.Native.Nat.{ℕ, _+_, _-_}
 use mathlib.Core.List.{List, [], _∷_, _++_}
 use mathlib.Core.Path.{_≡_}
 use Rattle.listing.specs.Text.{readLine, levelsLine, endLine}
-use Rattle.panel.specs.Panel.{fresh, shown}
+use Rattle.panel.specs.Panel.{fresh}
 use Rattle.score.specs.declared.Field.{Field}
 use Rattle.score.specs.declared.What.{What}
 use Rattle.score.specs.declared.What.the-variants.{Write, Read, Levels, End}
 use Rattle.sid.specs.declared.Mos6581.{Mos6581}
-use Rattle.sid.specs.Sid.{fresh as Sid·fresh, readAt, Call, write, read, after, ticksThen, clocksOf}
+use Rattle.sid.specs.Sid.{fresh as Sid·fresh, readAt, codeOf, levelOf, Call, write, read, after, ticksThen, clocksOf}
 use Rattle.player.specs.Listing.{play}
 
 -- a field's own call, and then others
@@ -28,7 +28,8 @@ callsTo n (f ∷ fs) stamp = ticksThen (f .stamp - n) (callThen (f .what) (calls
 unfoldable pub shownBy : ℕ → What → Mos6581 → List ℕ
 shownBy t (Write a v) c = []
 shownBy t (Read a) c = readLine t a (readAt c a .byte)
-shownBy t Levels c = levelsLine t (shown (c .«voice_0»)) (shown (c .«voice_1»)) (shown (c .«voice_2»))
+shownBy t Levels c =
+    levelsLine t (codeOf (c .«voice_0»)) (levelOf (c .«voice_0»)) (codeOf (c .«voice_1»)) (levelOf (c .«voice_1»)) (codeOf (c .«voice_2»)) (levelOf (c .«voice_2»))
 shownBy t End c = endLine t
 
 -- in a listing the line of f comes after those of the fields xs before it, and shows a fresh chip after exactly as many

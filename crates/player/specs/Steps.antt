@@ -3,7 +3,7 @@ use Prim.Native.Nat.{ℕ, zero, suc, _+_, _≤_}
 use mathlib.Core.Bool.{Bool, true, false, cond}
 use mathlib.Core.List.{List, [], _++_}
 use mathlib.Core.Path.{_≡_}
-use Rattle.listing.specs.Text.{Put, lineRoom, refusedLine}
+use Rattle.listing.specs.Text.{Put, textRoom, refusedLine}
 use Rattle.panel.specs.declared.Panel.{Panel}
 use Rattle.panel.specs.Panel.{fresh}
 use Rattle.refusals.specs.declared.Refused.{Refused as Refusing}
@@ -71,7 +71,7 @@ turn s p = turnBy s (p .panel) (p .rest)
 pub record Does (t : Turn) (l : List ℕ) (r : Stepped) (m : List ℕ) : Type 0 where
   pub player : r .player ≡ t .next
   pub put : Put l 0 (t .text) (r .len) m
-  pub fits : r .len ≤ lineRoom
+  pub fits : r .len ≤ textRoom
 
 -- the lines of n steps, joined
 unfoldable pub lines : ℕ → List ℕ → Player → List ℕ

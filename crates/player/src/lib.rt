@@ -1,5 +1,5 @@
 // The player of scores (document 01, 'Score and program'): one field a step, and the whole listing in a lent buffer.
-use listing::LINE;
+use listing::TEXT;
 use panel::Panel;
 use refusals::Refused;
 use score::Checked;
@@ -44,7 +44,7 @@ pub struct Stepped {
     pub len: usize,
 }
 
-fn refuse(panel: Panel, r: Refused, line: &mut [u8; LINE]) -> Stepped
+fn refuse(panel: Panel, r: Refused, line: &mut [u8; TEXT]) -> Stepped
     ensures { λ s. ⌜ Does (onRefusal panel r) (now (line .entry)) s (now (line .exit)) ⌝ }
 {
     let len = listing::refused_line(line, r);
@@ -53,7 +53,7 @@ fn refuse(panel: Panel, r: Refused, line: &mut [u8; LINE]) -> Stepped
     Stepped { player, len }
 }
 
-fn play_field(panel: Panel, f: Field, next: usize, line: &mut [u8; LINE]) -> Stepped
+fn play_field(panel: Panel, f: Field, next: usize, line: &mut [u8; TEXT]) -> Stepped
     ensures { λ r. ⌜ Does (onField panel f next) (now (line .entry)) r (now (line .exit)) ⌝ }
 {
     let stamp = f.stamp;
@@ -79,7 +79,16 @@ fn play_field(panel: Panel, f: Field, next: usize, line: &mut [u8; LINE]) -> Ste
             let voice_0 = display.voice_0;
             let voice_1 = display.voice_1;
             let voice_2 = display.voice_2;
-            let len = listing::levels_line(line, stamp, voice_0, voice_1, voice_2);
+            let len = listing::levels_line(
+                line,
+                stamp,
+                voice_0.code,
+                voice_0.level,
+                voice_1.code,
+                voice_1.level,
+                voice_2.code,
+                voice_2.level,
+            );
             let rest = Rest::Fields { at: next };
             let player = Player { panel: there, rest };
             return Stepped { player, len };
@@ -111,7 +120,7 @@ impl Player {
         }
     }
 
-    pub fn step(self, s: &[u8], line: &mut [u8; LINE]) -> Stepped
+    pub fn step(self, s: &[u8], line: &mut [u8; TEXT]) -> Stepped
         ensures { λ r. ⌜ Does (turn (now (s .entry)) self) (now (line .entry)) r (now (line .exit)) ⌝ }
     {
         let panel = self.panel;
@@ -145,7 +154,7 @@ pub fn listing_len(s: &[u8]) -> usize
     ensures { λ r. ⌜ r ≡ length (Listing·listing (now (s .entry))) ⌝ }
 {
     let mut p = Player::start(s);
-    let mut line = [0u8; LINE];
+    let mut line = [0u8; TEXT];
     let mut total: usize = 0;
     let mut left: u32 = STEPS;
     while 0 < left {
@@ -166,7 +175,7 @@ fn write_listing(s: &[u8], out: &mut [u8]) -> usize
     ensures { λ r. ⌜ Put (now (out .entry)) 0 (Listing·listing (now (s .entry))) r (now (out .exit)) ⌝ }
 {
     let mut p = Player::start(s);
-    let mut line = [0u8; LINE];
+    let mut line = [0u8; TEXT];
     let mut at: usize = 0;
     let mut left: u32 = STEPS;
     while 0 < left {

@@ -6,7 +6,7 @@ use mathlib.Core.List.{List, [], _++_, append-assoc}
 use mathlib.Core.Logic.{_⊎_, ⊎-elim}
 use mathlib.Core.Path.{_≡_, refl, ap, sym, _∙_}
 use lib.ListN.{length, take, length-append}
-use Rattle.listing.specs.Text.{Put, lineRoom}
+use Rattle.listing.specs.Text.{Put, textRoom}
 use Rattle.player.proofs.Loops.{lines-over, lines-none, nothing-after, take-put, made-whole}
 use Rattle.player.proofs.Played.{enough-steps}
 use Rattle.player.specs.declared.Player.{Player}
@@ -27,8 +27,8 @@ module _ {s : List ℕ} {p : Player} {steps : ℕ} {l : List ℕ} {r : Filled} {
   still zero z e o = (e, omega (arith, o .place))
   still (suc n) z e o = absurd (omega arith)
 
-  -- with a line's room, a player that has something left to do makes a step
-  pub fill-steps : lineRoom ≤ length l → 0 < steps → isNothing (p .rest) ≡ false → r .left < steps
+  -- with a step's room, a player that has something left to do makes a step
+  pub fill-steps : textRoom ≤ length l → 0 < steps → isNothing (p .rest) ≡ false → r .left < steps
   fill-steps h k e = go (f .makes .made) refl
     where
       go : (n : ℕ) → f .makes .made ≡ n → r .left < steps

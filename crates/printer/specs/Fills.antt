@@ -5,7 +5,7 @@ use mathlib.Core.List.{List, [], _++_}
 use mathlib.Core.Logic.{_⊎_}
 use mathlib.Core.Path.{_≡_}
 use lib.ListN.{length, take}
-use Rattle.listing.specs.Text.{lineRoom}
+use Rattle.listing.specs.Text.{textRoom}
 use Rattle.player.specs.declared.Player.{Player}
 use Rattle.player.specs.Listing.{listing}
 use Rattle.player.specs.Steps.{startOf, isNothing, mostSteps, Made}
@@ -18,11 +18,11 @@ abbrev pub room : ℕ
 room = 65536
 
 -- some of the steps asked for, their lines at the start of l, which then is m: it stops only where nothing is left to
--- do, no step is left, or less room than a line is given
+-- do, no step is left, or less room than a step is given
 pub record Fills (s : List ℕ) (p : Player) (steps : ℕ) (l : List ℕ) (r : Filled) (m : List ℕ) : Type 0 where
   pub makes : Made s p steps l (r .player) (r .left) (r .len) m
   pub fits : r .len ≤ length l
-  pub stops : (isNothing (r .player .rest) ≡ true) ⊎ ((r .left ≡ 0) ⊎ (length l < r .len + lineRoom))
+  pub stops : (isNothing (r .player .rest) ≡ true) ⊎ ((r .left ≡ 0) ⊎ (length l < r .len + textRoom))
 
 -- fills one after the other from the start of a score, each from where the one before stopped: p is the player there,
 -- `left` steps are left, and `text` is what they put, joined

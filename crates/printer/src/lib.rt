@@ -1,5 +1,5 @@
 // Prints a score's listing through a buffer.
-use listing::LINE;
+use listing::TEXT;
 use player::Player;
 ghost use Rattle.printer.specs.Fills.{Fills, Prints};
 
@@ -10,12 +10,12 @@ struct Filled {
     len: usize,
 }
 
-// Whole lines at the start of a buffer, until nothing is left to do, no step is left, or a line's room is not left.
+// Whole lines at the start of a buffer, until nothing is left to do, no step is left, or a step's room is not left.
 fn fill(from: Player, s: &[u8], steps: u32, out: &mut [u8]) -> Filled
     ensures { λ r. ⌜ Fills (now (s .entry)) from steps (now (out .entry)) r (now (out .exit)) ⌝ }
 {
     let mut p = from;
-    let mut line = [0u8; LINE];
+    let mut line = [0u8; TEXT];
     let mut at: usize = 0;
     let mut left: u32 = steps;
     while 0 < left {
@@ -28,7 +28,7 @@ fn fill(from: Player, s: &[u8], steps: u32, out: &mut [u8]) -> Filled
             };
         }
         let room = out.len() - at;
-        if room < LINE {
+        if room < TEXT {
             return Filled {
                 player: p,
                 left,

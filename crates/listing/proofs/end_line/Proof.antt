@@ -1,4 +1,4 @@
--- `end_line` puts the line `E clocks` at the buffer's start and gives its length, at most 64.
+-- `end_line` puts the line `E clocks` at the buffer's start and gives its length.
 use borrow.Author.Needs.{needs}
 use native.Mathlib.Omega.{arith}
 use Rattle.listing.specs.Text.{endLine}

@@ -1,4 +1,4 @@
--- `read_line` puts the line `R stamp address read` at the buffer's start and gives its length, at most 64.
+-- `read_line` puts the line `R stamp address read` at the buffer's start and gives its length.
 use borrow.Author.Needs.{needs}
 use native.Mathlib.Omega.{arith}
 use Rattle.listing.specs.Text.{readLine}

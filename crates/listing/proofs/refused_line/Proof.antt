@@ -1,4 +1,4 @@
--- `refused_line` puts `refused number at place`, with document 01's number, and gives the line's length, at most 64.
+-- `refused_line` puts `refused number at place`, with document 01's number, and gives the line's length.
 use borrow.Author.Needs.{needs}
 use native.Mathlib.Omega.{arith}
 use Rattle.listing.specs.Text.{refusedLine}

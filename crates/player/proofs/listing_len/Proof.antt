@@ -4,7 +4,7 @@ use native.Mathlib.Omega.{arith}
 use Prim.Native.Nat.{_*_, _+_, _≤_}
 use mathlib.Core.Path.{_∙_, _≡_, ap, sym}
 use lib.ListN.{length}
-use Rattle.listing.specs.Text.{lineRoom}
+use Rattle.listing.specs.Text.{textRoom}
 use Rattle.player.proofs.Loops.{lines-over, lines-none, len-first, len-more}
 use Rattle.player.specs.Listing.{listing}
 use Rattle.player.specs.Steps.{lines, mostSteps}
@@ -13,7 +13,7 @@ use Rattle.player.proofs.listing_len.Tie as tie
 
 abbrev Inv-loop : tie.InvT-loop
 Inv-loop s p₀ line₀ total₀ left₀ p line total left =
-    (total + lineRoom * left ≤ lineRoom * mostSteps) × (total + length (lines left s p) ≡ length (listing s))
+    (total + textRoom * left ≤ textRoom * mostSteps) × (total + length (lines left s p) ≡ length (listing s))
 
 abbrev μ-loop : tie.MeasureT-loop
 μ-loop s p₀ line₀ total₀ left₀ p line total left = left

@@ -5,14 +5,14 @@ use Prim.Native.Nat.{_+_, _≤_}
 use mathlib.Core.Path.{_≡_, refl, sym, _∙_}
 use lib.ListN.{length}
 use lib.Seq.{length-take-le}
-use Rattle.listing.specs.Text.{lineRoom}
+use Rattle.listing.specs.Text.{textRoom}
 use Rattle.player.proofs.Loops.{lines-over, lines-none, line-kept, made-none, made-more, listed-room, listed-all}
 use Rattle.player.specs.Steps.{startOf, mostSteps, Made}
 use Rattle.player.proofs.write_listing.Statement.{statement}
 use Rattle.player.proofs.write_listing.Tie as tie
 
 abbrev Inv-loop : tie.InvT-loop
-Inv-loop s out₀ p₀ line₀ at₀ left₀ out p line at left = (length line ≡ lineRoom) × (length out ≡ length out₀) × Made s (startOf s) mostSteps out₀ p left at out
+Inv-loop s out₀ p₀ line₀ at₀ left₀ out p line at left = (length line ≡ textRoom) × (length out ≡ length out₀) × Made s (startOf s) mostSteps out₀ p left at out
 
 abbrev μ-loop : tie.MeasureT-loop
 μ-loop s out₀ p₀ line₀ at₀ left₀ out p line at left = left

@@ -6,7 +6,7 @@ use mathlib.Core.Logic.{inl, inr}
 use mathlib.Core.Path.{_≡_, refl, sym, _∙_}
 use lib.ListN.{length}
 use lib.Seq.{length-take-le}
-use Rattle.listing.specs.Text.{lineRoom}
+use Rattle.listing.specs.Text.{textRoom}
 use Rattle.player.proofs.Loops.{line-kept, made-none, made-more}
 use Rattle.player.specs.Steps.{Made}
 use Rattle.printer.proofs.fill.Statement.{statement}
@@ -14,7 +14,7 @@ use Rattle.printer.proofs.fill.Tie as tie
 
 abbrev Inv-loop : tie.InvT-loop
 Inv-loop s steps out₀ p₀ line₀ at₀ left₀ out p line at left =
-    (length line ≡ lineRoom) × (length out ≡ length out₀) × (at ≤ length out) × Made s p₀ steps out₀ p left at out
+    (length line ≡ textRoom) × (length out ≡ length out₀) × (at ≤ length out) × Made s p₀ steps out₀ p left at out
 
 abbrev μ-loop : tie.MeasureT-loop
 μ-loop s steps out₀ p₀ line₀ at₀ left₀ out p line at left = left
@@ -79,7 +79,7 @@ loop-again c =
     let l = turn .before .loop in
     let does = c .before .before .before .before .before .before .step .ensures in
     let copies = c .before .before .before .copy-into in
-    let room : l .at + lineRoom ≤ length (l .out) = omega (arith, c .before .before .before .before .before .before .before .before .if2 .left, l .inv .2) in (
+    let room : l .at + textRoom ≤ length (l .out) = omega (arith, c .before .before .before .before .before .before .before .before .if2 .left, l .inv .2) in (
       line-kept does (l .inv .0),
       omega (arith, copies .kept .0, l .inv .1),
       omega (arith, copies .kept .0, room, does .fits),

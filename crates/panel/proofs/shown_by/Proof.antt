@@ -1,9 +1,9 @@
--- `shown` gives the code and the level that the chip tells of the voice named.
+-- `shown_by` gives the code and the level that the chip tells of the voice named.
 use borrow.Author.Needs.{needs}
 use mathlib.Core.Path.{ap, ap₂, _∙_}
 use Rattle.panel.specs.Panel.{codeTold, levelTold, shownTold}
-use Rattle.panel.proofs.shown.Statement.{statement}
-use Rattle.panel.proofs.shown.Tie as tie
+use Rattle.panel.proofs.shown_by.Statement.{statement}
+use Rattle.panel.proofs.shown_by.Tie as tie
 
 code-requires : tie.Need-code-requires
 code-requires c κs = search needs
@@ -24,7 +24,7 @@ returns c =
     let level = c .level-told .ensures ∙ ap levelTold (c .before .level .ensures) in
     ap₂ (λ x y. record { code = x; level = y }) code level
 
-pub shown-spec : {M : Type 1} → statement M
-shown-spec =
+pub shown-by-spec : {M : Type 1} → statement M
+shown-by-spec =
     tie.close
     (tie.spec code-requires code-told-requires level-requires level-told-requires returns)
