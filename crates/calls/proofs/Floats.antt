@@ -13,11 +13,11 @@ use Rattle.laws.proofs.Cond.{by-test}
 use Rattle.floating.specs.Floating.{captured, sampled, samples}
 use Rattle.floating.specs.declared.FloatingBus.{FloatingBus}
 use Rattle.floating.proofs.Fade.{sampled-empty, lines-whole, lines-gone}
-use Rattle.oscillator.specs.Oscillator.{writtenControl, writtenBus, resetPhase, written as Oscillator·written, synchronised as Oscillator·synchronised, ticked as Oscillator·ticked}
+use Rattle.oscillator.specs.Oscillator.{writtenControl, writtenBus, resetPhase, written as Oscillator·written, synchronised as Oscillator·synchronised, tickedBy as Oscillator·tickedBy}
 use Rattle.oscillator.specs.declared.Control.{Control}
 use Rattle.oscillator.specs.declared.Oscillator.{Oscillator}
 use Rattle.oscillator.proofs.Floats.{tick-control, tick-cycle, tick-lines, tick-floats, write-captures}
-use Rattle.sid.specs.Sid.{fresh, register, writtenOscillator, writtenVoice, writtenTo, written, readAt, clockedVoice, voiced, synchronisedIf, ticked, codeOf, Call, write, read, tick, clear, potX, potY, called, after, clocksOf}
+use Rattle.sid.specs.Sid.{fresh, register, writtenOscillator, writtenVoice, writtenTo, written, readAt, clockedVoice, clockedVoiceBy, voiced, voicedBy, synchronisedIf, ticked, codeOf, Call, write, read, tick, clear, potX, potY, called, after, clocksOf}
 use Rattle.sid.specs.declared.Voice.{Voice}
 use Rattle.sid.specs.declared.Mos6581.{Mos6581}
 use Rattle.calls.specs.Calls.{Which, voice-0, voice-1, voice-2, number, of, controlOf, waveformOf, cycleOf, Each, none, next, leavesOff, Latched, Captures, Floats}
@@ -37,7 +37,7 @@ voice-drifts
     : (v : Voice) (modulator : ℕ) (b : FloatingBus) (cycle : ℕ)
     → Drifts v b cycle
     → Drifts (voiced (clockedVoice v) modulator) (sampled b (Cycle·after cycle 1)) (Cycle·after cycle 1)
-unfolding voiced clockedVoice Oscillator·ticked
+unfolding voicedBy clockedVoiceBy Oscillator·tickedBy
 voice-drifts v modulator b cycle d =
     let o = v .oscillator in
     let none : o .control .waveform % 16 ≡ 0 = ap (λ (x : ℕ). x % 16) (d .off) in

@@ -5,9 +5,9 @@ use mathlib.Core.List.{List, [], _∷_}
 use Prim.Native.Nat.{ℕ}
 use Rattle.laws.specs.Cycle.{after as Cycle·after}
 use Rattle.envelope.specs.Envelope.{reset as Envelope·reset}
-use Rattle.oscillator.specs.Oscillator.{fresh as Oscillator·fresh, resetPhase, synchronised as Oscillator·synchronised, ticked as Oscillator·ticked}
+use Rattle.oscillator.specs.Oscillator.{fresh as Oscillator·fresh, resetPhase, synchronised as Oscillator·synchronised, tickedBy as Oscillator·tickedBy}
 use Rattle.oscillator.proofs.Floats.{tick-cycle}
-use Rattle.sid.specs.Sid.{fresh, resetVoice, reset, clockedVoice, voiced, synchronisedIf, ticked, Call, write, read, tick, clear, potX, potY, called, after}
+use Rattle.sid.specs.Sid.{fresh, resetVoice, reset, clockedVoice, clockedVoiceBy, voiced, voicedBy, synchronisedIf, ticked, Call, write, read, tick, clear, potX, potY, called, after}
 use Rattle.sid.specs.declared.Voice.{Voice}
 use Rattle.sid.specs.declared.Mos6581.{Mos6581}
 use Rattle.calls.specs.Calls.{Which, voice-0, voice-1, voice-2, of, cycleOf, cycleAfter, Agree}
@@ -31,7 +31,7 @@ unfolding resetVoice Oscillator·fresh
 reset-cycle w c = ap cycleOf (reset-voice w c)
 
 voice-cycle : (taken : Bool) (v : Voice) (modulator : ℕ) → cycleOf (synchronisedIf taken (voiced (clockedVoice v) modulator)) ≡ Cycle·after (cycleOf v) 1
-unfolding synchronisedIf voiced clockedVoice Oscillator·synchronised resetPhase Oscillator·ticked
+unfolding synchronisedIf voicedBy clockedVoiceBy Oscillator·synchronised resetPhase Oscillator·tickedBy
 voice-cycle true v modulator = tick-cycle (v .oscillator) modulator
 voice-cycle false v modulator = tick-cycle (v .oscillator) modulator
 

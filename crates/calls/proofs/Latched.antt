@@ -8,8 +8,8 @@ use native.Mathlib.Omega.{arith}
 use Rattle.envelope.specs.Envelope.{fresh as Envelope·fresh, reset as Envelope·reset}
 use Rattle.envelope.specs.declared.Envelope.{Envelope}
 use Rattle.envelope.proofs.Readback.{clock-reads}
-use Rattle.oscillator.specs.Oscillator.{fresh as Oscillator·fresh, latchedTone, latchedCode, resetPhase, synchronised as Oscillator·synchronised, voiced as Oscillator·voiced}
-use Rattle.sid.specs.Sid.{register, fresh, resetVoice, readDriven, readAt, writtenVoice, clockedVoice, voiced, synchronisedIf, ticked, codeOf, levelOf, Call, write, read, tick, clear, potX, potY, called, after}
+use Rattle.oscillator.specs.Oscillator.{fresh as Oscillator·fresh, latchedTone, latchedCode, resetPhase, synchronised as Oscillator·synchronised, voicedBy as Oscillator·voicedBy}
+use Rattle.sid.specs.Sid.{register, fresh, resetVoice, readDriven, readAt, writtenVoice, clockedVoice, voiced, voicedBy, synchronisedIf, ticked, codeOf, levelOf, Call, write, read, tick, clear, potX, potY, called, after}
 use Rattle.sid.proofs.Joined.{after-join}
 use Rattle.sid.specs.declared.Voice.{Voice}
 use Rattle.sid.specs.declared.Mos6581.{Mos6581}
@@ -78,7 +78,7 @@ code-while-fresh w calls r = idle-keeps w calls fresh r .0 ∙ ap codeOf (fresh-
 -- ---- 'OSC3 is the top eight bits of voice 2's code'
 
 pub voice-latched : (v : Voice) (modulator : ℕ) (taken : Bool) → Latched (synchronisedIf taken (voiced (clockedVoice v) modulator))
-unfolding synchronisedIf voiced Oscillator·synchronised resetPhase Oscillator·voiced latchedCode latchedTone
+unfolding synchronisedIf voicedBy Oscillator·synchronised resetPhase Oscillator·voicedBy latchedCode latchedTone
 voice-latched v modulator true = record { shown = refl; twelve = omega arith }
 voice-latched v modulator false = record { shown = refl; twelve = omega arith }
 

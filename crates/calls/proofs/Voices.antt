@@ -14,7 +14,7 @@ use Rattle.envelope.specs.Envelope.{clocked as Envelope·clocked, targetRefresh
 use Rattle.envelope.specs.declared.Envelope.{Envelope}
 use Rattle.oscillator.specs.Oscillator.{writtenControl, tuned, resetPhase, testedTone, written as Oscillator·written}
 use Rattle.oscillator.specs.declared.Oscillator.{Oscillator}
-use Rattle.sid.specs.Sid.{freshVoice, fresh, register, withBus, resetVoice, reset, writtenOscillator, writtenEnvelope, writtenVoice, writtenTo, written, readDriven, readAt, withPotX, withPotY, clockedVoice, clocked, voiced, voiced0, voiced1, voiced2, synchronisedIf, synchronised, ticked, Call, write, read, tick, clear, potX, potY, called, after}
+use Rattle.sid.specs.Sid.{freshVoice, fresh, register, withBus, resetVoice, reset, writtenOscillator, writtenEnvelope, writtenVoice, writtenTo, written, readDriven, readAt, withPotX, withPotY, clockedVoice, clockedVoiceBy, clockedBy, voiced, voicedBy, voiced0By, voiced1By, voiced2By, synchronisedIf, synchronised, ticked, tickedBy, Call, write, read, tick, clear, potX, potY, called, after}
 use Rattle.sid.specs.declared.Voice.{Voice}
 use Rattle.sid.specs.declared.Mos6581.{Mos6581}
 use Rattle.sid.specs.declared.Read.{Read}
@@ -29,7 +29,7 @@ pub record Ticks (v u : Voice) : Type 0 where
   pub same : u ≡ synchronisedIf taken (voiced (clockedVoice v) modulator)
 
 pub tick-voice : (w : Which) (c : Mos6581) → Ticks (of w c) (of w (ticked c))
-unfolding ticked synchronised voiced0 voiced1 voiced2 clocked
+unfolding tickedBy synchronised voiced0By voiced1By voiced2By clockedBy
 tick-voice voice-0 c = record { modulator = _; taken = _; same = refl }
 tick-voice voice-1 c = record { modulator = _; taken = _; same = refl }
 tick-voice voice-2 c = record { modulator = _; taken = _; same = refl }
@@ -37,7 +37,7 @@ tick-voice voice-2 c = record { modulator = _; taken = _; same = refl }
 pub sync-envelope
     : (taken : Bool) (v : Voice) (modulator : ℕ)
     → synchronisedIf taken (voiced (clockedVoice v) modulator) .envelope ≡ Envelope·clocked (v .envelope)
-unfolding synchronisedIf voiced clockedVoice
+unfolding synchronisedIf voicedBy clockedVoiceBy
 sync-envelope true v modulator = refl
 sync-envelope false v modulator = refl
 
@@ -47,7 +47,7 @@ tick-envelope w c =
     ap (λ (v : Voice). v .envelope) (t .same) ∙ sync-envelope (t .taken) (of w c) (t .modulator)
 
 pub tick-bus : (c : Mos6581) → ticked c .«data_bus» ≡ Bus·clocked (c .«data_bus»)
-unfolding ticked synchronised voiced0 voiced1 voiced2 clocked
+unfolding tickedBy synchronised voiced0By voiced1By voiced2By clockedBy
 tick-bus c = refl
 
 -- ---- reads, pots, resets, and a fresh chip

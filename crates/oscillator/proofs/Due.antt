@@ -16,14 +16,14 @@ use Rattle.noise.specs.declared.Noise.{Noise}
 use Rattle.noise.specs.declared.NoiseGenerator.{NoiseGenerator}
 use Rattle.floating.specs.Floating.{leaks, sampled}
 use Rattle.floating.specs.declared.FloatingBus.{FloatingBus}
-use Rattle.oscillator.specs.Oscillator.{selected, ideal, waveformAt, code, loadsLines, loadedCode, sampledBus, couples, pullsDown, coupledNoise, pulledNoise}
+use Rattle.oscillator.specs.Oscillator.{selected, ideal, waveformAtBy, code, codeBy, loadsLines, loadedCode, loadedCodeBy, sampledBus, sampledBusBy, couples, pullsDown, coupledNoise, pulledNoise}
 use Rattle.oscillator.specs.Loop.{plainCode, sampleDue}
 use Rattle.oscillator.specs.Selection.{isOff, has, joined, combined}
 use Rattle.oscillator.specs.declared.Control.{Control}
 use Rattle.oscillator.specs.declared.Tone.{Tone}
 
 pub sample-due : (c : Control) (b : FloatingBus) (cycle : ℕ) → sampleDue c (b .numbers) cycle ≡ true → sampledBus b c cycle ≡ sampled b cycle
-unfolding sampleDue sampledBus
+unfolding sampleDue sampledBusBy
 sample-due c b cycle e = go (isOff (selected c)) e
   where
     go : (t : Bool) → (t && leaks (b .numbers) cycle) ≡ true → cond t (sampled b cycle) b ≡ sampled b cycle
@@ -31,7 +31,7 @@ sample-due c b cycle e = go (isOff (selected c)) e
     go false e = ap (λ (x : Bool). cond x (sampled b cycle) b) e
 
 pub sample-still : (c : Control) (b : FloatingBus) (cycle : ℕ) → sampleDue c (b .numbers) cycle ≡ false → sampledBus b c cycle ≡ b
-unfolding sampleDue sampledBus sampled
+unfolding sampleDue sampledBusBy sampled
 sample-still c b cycle e = go (isOff (selected c)) e
   where
     go : (t : Bool) → (t && leaks (b .numbers) cycle) ≡ false → cond t (sampled b cycle) b ≡ b
@@ -58,7 +58,7 @@ unfolding pulledNoise
 pull-still g c latched cycle e = rw e refl
 
 pub code-plain : (c : Control) (t : Tone) (visible floats m : ℕ) → loadsLines c ≡ false → code c t visible floats m ≡ plainCode c t visible floats m
-unfolding code plainCode waveformAt
+unfolding codeBy plainCode waveformAtBy
 code-plain c t visible floats m e = rw e refl
 
 -- lines joined from 0xfff fit twelve bits
@@ -81,7 +81,7 @@ unfolding loadsLines needsLoading drivers
 unloaded c e = rw e refl
 
 pub code-loaded : (c : Control) (t : Tone) (visible floats m : ℕ) → loadsLines c ≡ true → code c t visible floats m ≡ loadedCode c (plainCode c t visible floats m)
-unfolding code plainCode loadedCode waveformAt
+unfolding codeBy plainCode loadedCodeBy waveformAtBy
 code-loaded c t visible floats m e = rw e (go (eqb (selected c .raw) 0) refl)
   where
     go : (off : Bool) → eqb (selected c .raw) 0 ≡ off

@@ -10,7 +10,7 @@ use Rattle.laws.specs.Cycle.{after}
 use Rattle.floating.proofs.Fade.{lines-whole, lines-gone}
 use Rattle.floating.specs.Floating.{captured, sampled, samples}
 use Rattle.floating.specs.declared.FloatingBus.{FloatingBus}
-use Rattle.oscillator.specs.Oscillator.{clockedTone, clocked, comparedTone, code, sampledBus, evaluated, fedBackTone, fedBack, latchedTone, latchedCode, writtenControl, writtenBus, resetPhase, testedTone, written, voiced, ticked, ticks}
+use Rattle.oscillator.specs.Oscillator.{clockedTone, clockedBy, comparedTone, codeBy, sampledBusBy, evaluatedBy, fedBackTone, fedBack, latchedTone, latchedCode, writtenControl, writtenBus, resetPhase, testedTone, written, voicedBy, ticked, tickedBy, ticks, ticksBy}
 use Rattle.oscillator.specs.declared.Control.{Control}
 use Rattle.oscillator.specs.declared.Oscillator.{Oscillator}
 
@@ -21,27 +21,27 @@ small x = omega arith
 -- one tick of a voice
 module _ (o : Oscillator) (m : ℕ) where
   pub tick-control : ticked o m .control ≡ o .control
-  unfolding ticked voiced latchedCode fedBack evaluated clocked
+  unfolding tickedBy voicedBy latchedCode fedBack evaluatedBy clockedBy
   tick-control = refl
 
   pub tick-cycle : ticked o m .tone .cycle ≡ after (o .tone .cycle) 1
-  unfolding ticked voiced latchedCode fedBack evaluated clocked latchedTone fedBackTone comparedTone clockedTone
+  unfolding tickedBy voicedBy latchedCode fedBack evaluatedBy clockedBy latchedTone fedBackTone comparedTone clockedTone
   tick-cycle = refl
 
   -- with nothing selected the lines are sampled, and the code is what they show
   module _ (off : o .control .waveform % 16 ≡ 0) where
     pub tick-lines : ticked o m .bus ≡ sampled (o .bus) (after (o .tone .cycle) 1)
-    unfolding ticked voiced latchedCode fedBack evaluated clocked clockedTone sampledBus
+    unfolding tickedBy voicedBy latchedCode fedBack evaluatedBy clockedBy clockedTone sampledBusBy
     tick-lines = simp (eq-eqb (o .control .waveform % 16) 0 off)
 
     pub tick-floats : ticked o m .tone .«last_sample» ≡ sampled (o .bus) (after (o .tone .cycle) 1) .numbers .value % 4096
-    unfolding ticked voiced latchedCode fedBack evaluated clocked clockedTone sampledBus code latchedTone
+    unfolding tickedBy voicedBy latchedCode fedBack evaluatedBy clockedBy clockedTone sampledBusBy codeBy latchedTone
     tick-floats = simp (eq-eqb (o .control .waveform % 16) 0 off) (small _)
 
 -- n ticks with nothing selected
 module _ (ms : ℕ → ℕ) (o : Oscillator) (off : o .control .waveform % 16 ≡ 0) (fits : o .tone .cycle < 2 ^ 64) where
   ticks-control : (n : ℕ) → ticks n o ms .control ≡ o .control
-  unfolding ticks
+  unfolding ticksBy
   ticks-control zero = refl
   ticks-control (suc n) = tick-control (ticks n o ms) (ms n) ∙ ticks-control n
 
@@ -49,7 +49,7 @@ module _ (ms : ℕ → ℕ) (o : Oscillator) (off : o .control .waveform % 16 �
   ticks-off n = ap (λ (k : Control). k .waveform % 16) (ticks-control n) ∙ off
 
   ticks-cycle : (n : ℕ) → ticks n o ms .tone .cycle ≡ after (o .tone .cycle) n
-  unfolding ticks
+  unfolding ticksBy
   ticks-cycle zero = omega arith
   ticks-cycle (suc n) = tick-cycle (ticks n o ms) (ms n) ∙ ap (λ (x : ℕ). after x 1) (ticks-cycle n) ∙ omega arith
 
@@ -57,12 +57,12 @@ module _ (ms : ℕ → ℕ) (o : Oscillator) (off : o .control .waveform % 16 �
   next-cycle n = ap (λ (x : ℕ). after x 1) (ticks-cycle n) ∙ omega arith
 
   ticks-lines : (n : ℕ) → ticks n o ms .bus ≡ samples n (o .bus) (o .tone .cycle)
-  unfolding ticks samples
+  unfolding ticksBy samples
   ticks-lines zero = refl
   ticks-lines (suc n) = tick-lines (ticks n o ms) (ms n) (ticks-off n) ∙ ap₂ sampled (ticks-lines n) (next-cycle n)
 
   ticks-floats : (n : ℕ) → ticks (suc n) o ms .tone .«last_sample» ≡ samples (suc n) (o .bus) (o .tone .cycle) .numbers .value % 4096
-  unfolding ticks samples
+  unfolding ticksBy samples
   ticks-floats n =
       tick-floats (ticks n o ms) (ms n) (ticks-off n) ∙ ap₂ (λ (f : FloatingBus) (k : ℕ). sampled f k .numbers .value % 4096) (ticks-lines n) (next-cycle n)
 

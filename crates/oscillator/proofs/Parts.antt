@@ -9,13 +9,13 @@ use Rattle.noise.specs.declared.NoiseGenerator.{NoiseGenerator}
 use Rattle.floating.specs.declared.FloatingBus.{FloatingBus}
 use Rattle.oscillator.proofs.Floats.{small}
 use Rattle.oscillator.specs.Selection.{isOff}
-use Rattle.oscillator.specs.Oscillator.{selected, rising, clockedTone, clocked, comparedTone, ideal, loadsLines, loadedCode, waveformAt, code, sampledBus, evaluated, fedBackTone, fedBack, latchedTone, latchedNoise, latchedCode, voiced, ticked}
+use Rattle.oscillator.specs.Oscillator.{selected, rising, clockedTone, clockedBy, comparedTone, ideal, loadsLines, loadedCodeBy, waveformAtBy, code, codeBy, sampledBus, evaluatedBy, fedBackTone, fedBack, latchedTone, latchedNoise, latchedCode, voicedBy, ticked, tickedBy}
 use Rattle.oscillator.specs.declared.Control.{Control}
 use Rattle.oscillator.specs.declared.Tone.{Tone}
 use Rattle.oscillator.specs.declared.Oscillator.{Oscillator}
 
 code-small : (k : Control) (t : Tone) (visible floats modulator : ℕ) → code k t visible floats modulator % 4096 ≡ code k t visible floats modulator
-unfolding code waveformAt loadedCode
+unfolding codeBy waveformAtBy loadedCodeBy
 code-small k t visible floats modulator = go (isOff (selected k)) (loadsLines k)
   where
     x : ℕ
@@ -38,7 +38,7 @@ pub tick-parts
     → b1 ≡ sampledBus b k (t1 .cycle)
     → output ≡ code k t1 (g1 .numbers .visible) (b1 .numbers .value) modulator
     → voice k (latchedTone (fedBackTone (comparedTone t1 k) k output) output) (latchedNoise g1 k output (t1 .cycle)) b1 ≡ ticked (voice k t g b) modulator
-unfolding ticked voiced latchedCode fedBack evaluated clocked comparedTone fedBackTone
+unfolding tickedBy voicedBy latchedCode fedBack evaluatedBy clockedBy comparedTone fedBackTone
 tick-parts k t g b modulator t1 g1 b1 output p q r s =
     let t′ = clockedTone t k in
     let g′ = stepped g (k .«test_enabled») (rising (t .accumulator) (t′ .accumulator)) (t′ .cycle) in

@@ -14,12 +14,12 @@ use Rattle.noise.specs.declared.NoiseGenerator.{NoiseGenerator}
 use Rattle.floating.specs.Loop.{lines}
 use Rattle.floating.specs.declared.Floating.{Floating}
 use Rattle.floating.specs.declared.FloatingBus.{FloatingBus}
-use Rattle.oscillator.specs.Oscillator.{rising, clockedTone, comparedTone, code, sampledBus, fedBackTone, latchedTone, coupledNoise, pulledNoise, latchedNoise, resetPhase, synchronised as Oscillator·synchronised, ticked as Oscillator·ticked}
+use Rattle.oscillator.specs.Oscillator.{rising, clockedTone, comparedTone, code, sampledBus, fedBackTone, latchedTone, coupledNoise, pulledNoise, latchedNoise, resetPhase, synchronised as Oscillator·synchronised, tickedBy as Oscillator·tickedBy}
 use Rattle.oscillator.specs.declared.Control.{Control}
 use Rattle.oscillator.specs.declared.Tone.{Tone}
 use Rattle.oscillator.specs.declared.Oscillator.{Oscillator}
 use Rattle.oscillator.proofs.Parts.{voice, tick-parts}
-use Rattle.sid.specs.Sid.{clockedVoice, clocked, voiced, phaseOf, withVoices, withBus, voiced0, voiced1, voiced2, synchronisedIf, synced, synchronised, ticked}
+use Rattle.sid.specs.Sid.{clockedVoice, clockedVoiceBy, clocked, clockedBy, voiced, voicedBy, phaseOf, withVoices, withBus, voiced0, voiced0By, voiced1, voiced1By, voiced2, voiced2By, synchronisedIf, synced, synchronised, ticked, tickedBy}
 use Rattle.sid.specs.declared.Voice.{Voice}
 use Rattle.sid.specs.declared.Mos6581.{Mos6581}
 
@@ -54,7 +54,7 @@ pub voice-parts
     → g3 ≡ pulledNoise g2 k output (t1 .cycle)
     → e1 ≡ Envelope·clocked e
     → pack k t2 g3 b1 e1 ≡ voiced (clockedVoice (pack k t g b e)) modulator
-unfolding voiced clockedVoice Oscillator·ticked latchedNoise
+unfolding voicedBy clockedVoiceBy Oscillator·tickedBy latchedNoise
 voice-parts k t g b e modulator t1 g1 b1 output t2 g2 g3 e1 p q r s u v w x =
     ap₂ (λ (o : Oscillator) (y : Envelope). record { oscillator = o; envelope = y })
     (ap₂ (λ (y : Tone) (z : NoiseGenerator). voice k y z b1) u (w ∙ ap (λ (y : NoiseGenerator). pulledNoise y k output (t1 .cycle)) v)
@@ -80,7 +80,7 @@ module _ (c : Mos6581) (b : InternalDataBus) (v w x : Voice) where
       → w ≡ voiced (clockedVoice (c .«voice_1»)) (phaseOf v)
       → x ≡ voiced (clockedVoice (c .«voice_2»)) (phaseOf w)
       → chip c b v w x ≡ voiced2 (voiced1 (voiced0 (clocked c)))
-  unfolding voiced0 voiced1 voiced2 clocked
+  unfolding voiced0By voiced1By voiced2By clockedBy
   rung o p q r = simp (r, q, p, o)
 
   pub chip-parts
@@ -93,6 +93,6 @@ module _ (c : Mos6581) (b : InternalDataBus) (v w x : Voice) where
       → w1 ≡ synced w v x
       → x1 ≡ synced x w v
       → chip c b v1 w1 x1 ≡ ticked c
-  unfolding ticked synchronised
+  unfolding tickedBy synchronised
   chip-parts o p q r v1 w1 x1 e f g =
       ap (λ (y : Voice). chip c b y w1 x1) e ∙ ap₂ (chip c b (synced v x w)) f g ∙ ap synchronised (rung o p q r)

@@ -21,14 +21,14 @@ use Rattle.floating.specs.Floating.{sampled}
 use Rattle.floating.specs.Loop.{lines}
 use Rattle.floating.specs.declared.Floating.{Floating}
 use Rattle.floating.specs.declared.FloatingBus.{FloatingBus}
-use Rattle.oscillator.specs.Oscillator.{rising, clockedTone, clocked as Oscillator·clocked, comparedTone, fedBackTone, latchedTone, resetPhase}
+use Rattle.oscillator.specs.Oscillator.{rising, clockedTone, clockedBy as Oscillator·clockedBy, comparedTone, fedBackTone, latchedTone, resetPhase}
 use Rattle.oscillator.specs.Oscillator.{loadedCode, loadsLines, code, sampledBus, couples, pullsDown, coupledNoise, pulledNoise}
 use Rattle.oscillator.specs.Loop.{sampleDue, plainCode}
 use Rattle.oscillator.specs.declared.Control.{Control}
 use Rattle.oscillator.specs.declared.Tone.{Tone}
 use Rattle.oscillator.proofs.Due.{sample-due, sample-still, couple-due, couple-still, pull-due, pull-still, code-loaded, code-plain}
 use Rattle.sid.proofs.Ticks.{pack, same-charge, voice-parts, sync-parts, chip-parts}
-use Rattle.sid.specs.Sid.{clockedVoice, voiced, syncs, ticked, ticks}
+use Rattle.sid.specs.Sid.{clockedVoice, clockedVoiceBy, voiced, syncs, ticked, ticks}
 use Rattle.sid.specs.declared.Voice.{Voice}
 use Rattle.sid.specs.declared.Mos6581.{Mos6581}
 
@@ -119,7 +119,7 @@ pub round
     → u1 ≡ cond (syncs (t0 .«msb_rising») (k1 .«sync_enabled») (k0 .«sync_enabled») (t2 .«msb_rising»)) (resetPhase t1) t1
     → u2 ≡ cond (syncs (t1 .«msb_rising») (k2 .«sync_enabled») (k1 .«sync_enabled») (t0 .«msb_rising»)) (resetPhase t2) t2
     → whole b1 x y (pack k0 u0 g0 l0 e0) (pack k1 u1 g1 l1 e1) (pack k2 u2 g2 l2 e2) ≡ ticked (whole b x y v0 v1 v2)
-unfolding clockedVoice Oscillator·clocked
+unfolding clockedVoiceBy Oscillator·clockedBy
 round v0 v1 v2 {b} {b1} {x} {y} {k0} {k1} {k2} {t0} {t1} {t2} {u0} {u1} {u2} {s} {g0} {g1} {g2} {l0} {l1} {l2} {e0} {e1} {e2} o p q r m f g h =
     chip-parts (whole b x y v0 v1 v2) b1 (pack k0 t0 g0 l0 e0) (pack k1 t1 g1 l1 e1) (pack k2 t2 g2 l2 e2)
     (faded o) (p ∙ ap (voiced (clockedVoice v0)) (ap (λ (z : Tone). z .accumulator) m)) q r _ _ _
