@@ -8,6 +8,7 @@ use lib.Bits.{and-comm, and-mask}
 use lib.Dec.{leb}
 use Rattle.waveforms.specs.Waveforms.{drivers, needsLoading, loaded}
 use Rattle.oscillator.proofs.Floats.{tick-control}
+use Rattle.oscillator.specs.Ways.{afresh}
 use Rattle.oscillator.specs.Oscillator.{clockedTone, clockedBy, phase, pulse, comparedTone, ideal, loadsLines, loadedCodeBy, waveformAtBy, code, codeBy, evaluatedBy, fedBackTone, fedBack, latchedTone, latchedCode, voicedBy, ticked, tickedBy}
 use Rattle.oscillator.specs.Selection.{combined}
 use Rattle.oscillator.specs.declared.Control.{Control}
@@ -40,8 +41,8 @@ module _ (o : Oscillator) (m : ℕ) (alone : o .control .waveform % 16 ≡ 4) wh
       → o .control .«test_enabled» ≡ false
       → ticked (ticked o m) next .tone .«last_sample» ≡ cond (leb (o .control .«pulse_width») (phase (clockedTone (o .tone) (o .control)))) 0xfff 0
   pulse-one-later next e =
-      tick-pulse (ticked o m) next (ap (λ (c : Control). c .waveform % 16) (tick-control o m) ∙ alone)
-      ∙ ap (λ (c : Control). cond (c .«test_enabled») 0xfff (ticked o m .tone .«pulse_output») % 4096) (tick-control o m)
+      tick-pulse (ticked o m) next (ap (λ (c : Control). c .waveform % 16) (tick-control afresh o m) ∙ alone)
+      ∙ ap (λ (c : Control). cond (c .«test_enabled») 0xfff (ticked o m .tone .«pulse_output») % 4096) (tick-control afresh o m)
       ∙ simp e (ap (λ (x : ℕ). x % 4096) (tick-compares o m) ∙ go (leb (o .control .«pulse_width») (phase (clockedTone (o .tone) (o .control)))))
     where
       go : (t : Bool) → cond t 0xfff 0 % 4096 ≡ cond t 0xfff 0

@@ -55,7 +55,8 @@ unfoldable pub clockedBy : Ways → Oscillator → Oscillator
 clockedBy w o = record {
   control = o .control;
   tone = clockedTone (o .tone) (o .control);
-  noise = steppedBy (w .recover) (o .noise) (o .control .«test_enabled») (rising (o .tone .accumulator) (clockedTone (o .tone) (o .control) .accumulator)) (clockedTone (o .tone) (o .control) .cycle);
+  noise = steppedBy (w .recover) (o .noise) (o .control .«test_enabled»)
+      (rising (o .tone .accumulator) (clockedTone (o .tone) (o .control) .accumulator)) (clockedTone (o .tone) (o .control) .cycle);
   bus = o .bus;
 }
 

@@ -15,6 +15,6 @@ pub record Ways : Type 0 where
   -- how floating lines leak, at a cycle
   pub leak : FloatingBus → ℕ → FloatingBus
 
--- document 01's: each is worked out afresh on every clock (settled_code, relax, sample)
+-- document 01's: a code is settled, and leaks are counted, afresh on every clock (apply_line_loading, relax, sample)
 abbrev pub afresh : Ways
 afresh = record { load = loaded; recover = relaxed; leak = sampled }
