@@ -13,11 +13,12 @@ use Rattle.laws.proofs.Cond.{by-test}
 use Rattle.floating.specs.Floating.{captured, sampled, samples}
 use Rattle.floating.specs.declared.FloatingBus.{FloatingBus}
 use Rattle.floating.proofs.Fade.{sampled-empty, lines-whole, lines-gone}
-use Rattle.oscillator.specs.Oscillator.{writtenControl, writtenBus, resetPhase, written as Oscillator·written, synchronised as Oscillator·synchronised, ticked as Oscillator·ticked}
+use Rattle.oscillator.specs.Oscillator.{writtenControl, writtenBus, resetPhase, written as Oscillator·written, synchronised as Oscillator·synchronised, tickedBy as Oscillator·tickedBy}
 use Rattle.oscillator.specs.declared.Control.{Control}
 use Rattle.oscillator.specs.declared.Oscillator.{Oscillator}
 use Rattle.oscillator.proofs.Floats.{tick-control, tick-cycle, tick-lines, tick-floats, write-captures}
-use Rattle.sid.specs.Sid.{fresh, register, writtenOscillator, writtenVoice, writtenTo, written, readAt, clockedVoice, voiced, synchronisedIf, ticked, codeOf, Call, write, read, tick, clear, potX, potY, called, after, clocksOf}
+use Rattle.oscillator.specs.Ways.{afresh}
+use Rattle.sid.specs.Sid.{fresh, register, writtenOscillator, writtenVoice, writtenTo, written, readAt, clockedVoice, clockedVoiceBy, voiced, voicedBy, synchronisedIf, ticked, codeOf, Call, write, read, tick, clear, potX, potY, called, after, clocksOf}
 use Rattle.sid.specs.declared.Voice.{Voice}
 use Rattle.sid.specs.declared.Mos6581.{Mos6581}
 use Rattle.calls.specs.Calls.{Which, voice-0, voice-1, voice-2, number, of, controlOf, waveformOf, cycleOf, Each, none, next, leavesOff, Latched, Captures, Floats}
@@ -37,16 +38,16 @@ voice-drifts
     : (v : Voice) (modulator : ℕ) (b : FloatingBus) (cycle : ℕ)
     → Drifts v b cycle
     → Drifts (voiced (clockedVoice v) modulator) (sampled b (Cycle·after cycle 1)) (Cycle·after cycle 1)
-unfolding voiced clockedVoice Oscillator·ticked
+unfolding voicedBy clockedVoiceBy Oscillator·tickedBy
 voice-drifts v modulator b cycle d =
     let o = v .oscillator in
     let none : o .control .waveform % 16 ≡ 0 = ap (λ (x : ℕ). x % 16) (d .off) in
     let at = ap₂ (λ (x : FloatingBus) (n : ℕ). sampled x (Cycle·after n 1)) (d .lines) (d .now) in
     record {
-      off = ap (λ (k : Control). k .waveform) (tick-control o modulator) ∙ d .off;
-      lines = tick-lines o modulator none ∙ at;
-      now = tick-cycle o modulator ∙ ap (λ (n : ℕ). Cycle·after n 1) (d .now);
-      code = tick-floats o modulator none ∙ ap (λ (x : FloatingBus). x .numbers .value % 4096) at;
+      off = ap (λ (k : Control). k .waveform) (tick-control afresh o modulator) ∙ d .off;
+      lines = tick-lines afresh o modulator none ∙ at;
+      now = tick-cycle afresh o modulator ∙ ap (λ (n : ℕ). Cycle·after n 1) (d .now);
+      code = tick-floats afresh o modulator none ∙ ap (λ (x : FloatingBus). x .numbers .value % 4096) at;
     }
 
 sync-drifts : (taken : Bool) (v : Voice) (b : FloatingBus) (cycle : ℕ) → Drifts v b cycle → Drifts (synchronisedIf taken v) b cycle
@@ -56,7 +57,7 @@ sync-drifts false v b cycle d = d
 
 tick-drifts : (w : Which) (c : Mos6581) (b : FloatingBus) (cycle : ℕ) → Drifts (of w c) b cycle → Drifts (of w (ticked c)) (sampled b (Cycle·after cycle 1)) (Cycle·after cycle 1)
 tick-drifts w c b cycle d =
-    let t = tick-voice w c in
+    let t = tick-voice afresh w c in
     subst (λ (u : Voice). Drifts u (sampled b (Cycle·after cycle 1)) (Cycle·after cycle 1)) (sym (t .same))
     (sync-drifts (t .taken) (voiced (clockedVoice (of w c)) (t .modulator)) _ _ (voice-drifts (of w c) (t .modulator) b cycle d))
 

@@ -5,9 +5,10 @@ use mathlib.Core.List.{List, [], _∷_}
 use Prim.Native.Nat.{ℕ}
 use Rattle.laws.specs.Cycle.{after as Cycle·after}
 use Rattle.envelope.specs.Envelope.{reset as Envelope·reset}
-use Rattle.oscillator.specs.Oscillator.{fresh as Oscillator·fresh, resetPhase, synchronised as Oscillator·synchronised, ticked as Oscillator·ticked}
+use Rattle.oscillator.specs.Oscillator.{fresh as Oscillator·fresh, resetPhase, synchronised as Oscillator·synchronised, tickedBy as Oscillator·tickedBy}
+use Rattle.oscillator.specs.Ways.{Ways, afresh}
 use Rattle.oscillator.proofs.Floats.{tick-cycle}
-use Rattle.sid.specs.Sid.{fresh, resetVoice, reset, clockedVoice, voiced, synchronisedIf, ticked, Call, write, read, tick, clear, potX, potY, called, after}
+use Rattle.sid.specs.Sid.{fresh, resetVoice, reset, clockedVoiceBy, voicedBy, synchronisedIf, tickedBy, Call, write, read, tick, clear, potX, potY, called, after}
 use Rattle.sid.specs.declared.Voice.{Voice}
 use Rattle.sid.specs.declared.Mos6581.{Mos6581}
 use Rattle.calls.specs.Calls.{Which, voice-0, voice-1, voice-2, of, cycleOf, cycleAfter, Agree}
@@ -30,15 +31,16 @@ reset-cycle : (w : Which) (c : Mos6581) → cycleOf (of w (reset c)) ≡ 0
 unfolding resetVoice Oscillator·fresh
 reset-cycle w c = ap cycleOf (reset-voice w c)
 
-voice-cycle : (taken : Bool) (v : Voice) (modulator : ℕ) → cycleOf (synchronisedIf taken (voiced (clockedVoice v) modulator)) ≡ Cycle·after (cycleOf v) 1
-unfolding synchronisedIf voiced clockedVoice Oscillator·synchronised resetPhase Oscillator·ticked
-voice-cycle true v modulator = tick-cycle (v .oscillator) modulator
-voice-cycle false v modulator = tick-cycle (v .oscillator) modulator
+voice-cycle
+    : (ways : Ways) (taken : Bool) (v : Voice) (modulator : ℕ) → cycleOf (synchronisedIf taken (voicedBy ways (clockedVoiceBy ways v) modulator)) ≡ Cycle·after (cycleOf v) 1
+unfolding synchronisedIf voicedBy clockedVoiceBy Oscillator·synchronised resetPhase Oscillator·tickedBy
+voice-cycle ways true v modulator = tick-cycle ways (v .oscillator) modulator
+voice-cycle ways false v modulator = tick-cycle ways (v .oscillator) modulator
 
-pub tick-cycles : (w : Which) (c : Mos6581) → cycleOf (of w (ticked c)) ≡ Cycle·after (cycleOf (of w c)) 1
-tick-cycles w c =
-    let t = tick-voice w c in
-    ap cycleOf (t .same) ∙ voice-cycle (t .taken) (of w c) (t .modulator)
+pub tick-cycles : (ways : Ways) (w : Which) (c : Mos6581) → cycleOf (of w (tickedBy ways c)) ≡ Cycle·after (cycleOf (of w c)) 1
+tick-cycles ways w c =
+    let t = tick-voice ways w c in
+    ap cycleOf (t .same) ∙ voice-cycle ways (t .taken) (of w c) (t .modulator)
 
 pub cycle-after : (w : Which) (calls : List Call) (c : Mos6581) → cycleOf (of w (after calls c)) ≡ cycleAfter calls (cycleOf (of w c))
 unfolding after called cycleAfter
@@ -46,7 +48,7 @@ cycle-after w [] c = refl
 cycle-after w (write address value ∷ calls) c =
     cycle-after w calls (called (write address value) c) ∙ ap (λ (f : Face). cycleAfter calls (f .cycle)) (write-face w c address value)
 cycle-after w (read address ∷ calls) c = cycle-after w calls (called (read address) c) ∙ ap (λ (v : Voice). cycleAfter calls (cycleOf v)) (read-voice w c address)
-cycle-after w (tick ∷ calls) c = cycle-after w calls (called tick c) ∙ ap (cycleAfter calls) (tick-cycles w c)
+cycle-after w (tick ∷ calls) c = cycle-after w calls (called tick c) ∙ ap (cycleAfter calls) (tick-cycles afresh w c)
 cycle-after w (clear ∷ calls) c = cycle-after w calls (called clear c) ∙ ap (cycleAfter calls) (reset-cycle w c)
 cycle-after w (potX value ∷ calls) c = cycle-after w calls (called (potX value) c) ∙ ap (λ (v : Voice). cycleAfter calls (cycleOf v)) (pot-x-voice w c value)
 cycle-after w (potY value ∷ calls) c = cycle-after w calls (called (potY value) c) ∙ ap (λ (v : Voice). cycleAfter calls (cycleOf v)) (pot-y-voice w c value)

@@ -8,8 +8,9 @@ use native.Mathlib.Omega.{arith}
 use Rattle.envelope.specs.Envelope.{fresh as Envelope·fresh, reset as Envelope·reset}
 use Rattle.envelope.specs.declared.Envelope.{Envelope}
 use Rattle.envelope.proofs.Readback.{clock-reads}
-use Rattle.oscillator.specs.Oscillator.{fresh as Oscillator·fresh, latchedTone, latchedCode, resetPhase, synchronised as Oscillator·synchronised, voiced as Oscillator·voiced}
-use Rattle.sid.specs.Sid.{register, fresh, resetVoice, readDriven, readAt, writtenVoice, clockedVoice, voiced, synchronisedIf, ticked, codeOf, levelOf, Call, write, read, tick, clear, potX, potY, called, after}
+use Rattle.oscillator.specs.Oscillator.{fresh as Oscillator·fresh, latchedTone, latchedCode, resetPhase, synchronised as Oscillator·synchronised, voicedBy as Oscillator·voicedBy}
+use Rattle.oscillator.specs.Ways.{afresh}
+use Rattle.sid.specs.Sid.{register, fresh, resetVoice, readDriven, readAt, writtenVoice, clockedVoice, voiced, voicedBy, synchronisedIf, ticked, codeOf, levelOf, Call, write, read, tick, clear, potX, potY, called, after}
 use Rattle.sid.proofs.Joined.{after-join}
 use Rattle.sid.specs.declared.Voice.{Voice}
 use Rattle.sid.specs.declared.Mos6581.{Mos6581}
@@ -78,13 +79,13 @@ code-while-fresh w calls r = idle-keeps w calls fresh r .0 ∙ ap codeOf (fresh-
 -- ---- 'OSC3 is the top eight bits of voice 2's code'
 
 pub voice-latched : (v : Voice) (modulator : ℕ) (taken : Bool) → Latched (synchronisedIf taken (voiced (clockedVoice v) modulator))
-unfolding synchronisedIf voiced Oscillator·synchronised resetPhase Oscillator·voiced latchedCode latchedTone
+unfolding synchronisedIf voicedBy Oscillator·synchronised resetPhase Oscillator·voicedBy latchedCode latchedTone
 voice-latched v modulator true = record { shown = refl; twelve = omega arith }
 voice-latched v modulator false = record { shown = refl; twelve = omega arith }
 
 pub tick-latched : (w : Which) (c : Mos6581) → Latched (of w (ticked c))
 tick-latched w c =
-    let t = tick-voice w c in
+    let t = tick-voice afresh w c in
     subst Latched (sym (t .same)) (voice-latched (of w c) (t .modulator) (t .taken))
 
 pub fresh-latched : (accumulator : ℕ) (e : Envelope) → Latched (record { oscillator = Oscillator·fresh accumulator; envelope = e })
@@ -144,7 +145,7 @@ unfolding called
 read-env3-after-tick calls more c address r e =
     read-env3 (after (calls ++ (tick ∷ more)) c) address e
     ∙ ap (λ (f : Face). f .env) (last-face voice-2 calls tick more c r)
-    ∙ ap (λ (x : Envelope). x .readback) (tick-envelope voice-2 (after calls c))
+    ∙ ap (λ (x : Envelope). x .readback) (tick-envelope afresh voice-2 (after calls c))
     ∙ clock-reads (of voice-2 (after calls c) .envelope)
 
 pub read-env3-after-reset

@@ -12,6 +12,7 @@ use Rattle.release.specs.Release.{Settled}
 use Rattle.release.specs.Sustain.{SteadyRise}
 use Rattle.release.proofs.Demand3.{demand-3}
 use Rattle.release.proofs.Sustain.{sustain-holds}
+use Rattle.oscillator.specs.Ways.{afresh}
 use Rattle.sid.specs.Sid.{ticked, levelOf, Call, write, read, tick, clear, potX, potY, called, after, clocksOf}
 use Rattle.sid.specs.declared.Voice.{Voice}
 use Rattle.sid.specs.declared.Mos6581.{Mos6581}
@@ -31,7 +32,7 @@ envelope-after w (read address ∷ calls) c (next h r) =
     envelope-after w calls (called (read address) c) r ∙ ap (λ (v : Voice). Envelope·clocks (clocksOf calls) (v .envelope)) (read-voice w c address)
 envelope-after w (tick ∷ calls) c (next h r) =
     envelope-after w calls (called tick c) r
-    ∙ ap (Envelope·clocks (clocksOf calls)) (tick-envelope w c)
+    ∙ ap (Envelope·clocks (clocksOf calls)) (tick-envelope afresh w c)
     ∙ sym (times-first Envelope·clocked (clocksOf calls) (of w c .envelope))
 envelope-after w (clear ∷ calls) c (next h r) =
     ap (λ (t : Bool). cond t (Envelope·clocks (clocksOf calls) (of w c .envelope)) (of w (after calls (called clear c)) .envelope)) h
@@ -80,7 +81,7 @@ chip-sustains w calls more c h s r q below top =
     let n = clocksOf calls in
     let volume : Envelope → ℕ = λ x. x .volume in
     let before = envelope-after w calls c r in
-    let on : of w (ticked (after calls c)) .envelope ≡ Envelope·clocks (suc n) e = tick-envelope w (after calls c) ∙ ap Envelope·clocked before in
+    let on : of w (ticked (after calls c)) .envelope ≡ Envelope·clocks (suc n) e = tick-envelope afresh w (after calls c) ∙ ap Envelope·clocked before in
     let later = envelope-after w more (ticked (after calls c)) q ∙ ap (Envelope·clocks (clocksOf more)) on in
     ap volume (later ∙ times-add Envelope·clocked (clocksOf more) (suc n) e)
     ∙ sustain-holds e h s n (λ k. below (ap volume before ∙ k)) (ap volume (sym on) ∙ top) (suc n + clocksOf more) (omega arith)

@@ -13,10 +13,11 @@ use Rattle.envelope.specs.declared.Envelope.{Envelope}
 use Rattle.release.proofs.Stays.{held-is-zero}
 use Rattle.noise.specs.declared.NoiseGenerator.{NoiseGenerator}
 use Rattle.noise.proofs.Shows.{Shows, fresh-shows, stepped-shows, coupled-shows, pulled-shows, entered-shows, left-shows}
-use Rattle.oscillator.specs.Oscillator.{fresh as Oscillator·fresh, clockedTone, clocked as Oscillator·clocked, comparedTone, evaluated, feedsBack, fedBackTone, fedBack, latchedTone, couples, pullsDown, coupledNoise, pulledNoise, latchedNoise, latchedCode, testedNoise, resetPhase, testedTone, written as Oscillator·written, synchronised as Oscillator·synchronised, voiced as Oscillator·voiced}
+use Rattle.oscillator.specs.Oscillator.{fresh as Oscillator·fresh, clockedTone, clockedBy as Oscillator·clockedBy, comparedTone, evaluatedBy, feedsBack, fedBackTone, fedBack, latchedTone, couples, pullsDown, coupledNoise, pulledNoise, latchedNoise, latchedCode, testedNoise, resetPhase, testedTone, written as Oscillator·written, synchronised as Oscillator·synchronised, voicedBy as Oscillator·voicedBy}
 use Rattle.oscillator.specs.declared.Control.{Control}
 use Rattle.oscillator.specs.declared.Tone.{Tone}
-use Rattle.sid.specs.Sid.{freshVoice, fresh, resetVoice, writtenEnvelope, writtenVoice, clockedVoice, voiced, synchronisedIf, phaseOf, Call, called, after}
+use Rattle.oscillator.specs.Ways.{afresh}
+use Rattle.sid.specs.Sid.{freshVoice, fresh, resetVoice, writtenEnvelope, writtenVoice, clockedVoice, clockedVoiceBy, voiced, voicedBy, synchronisedIf, phaseOf, Call, called, after}
 use Rattle.sid.specs.declared.Voice.{Voice}
 use Rattle.sid.specs.declared.Mos6581.{Mos6581}
 use Rattle.calls.specs.Calls.{Which, of, Sound}
@@ -60,7 +61,7 @@ tick-shows
     : (v : Voice) (modulator : ℕ) (taken : Bool)
     → Shows (v .oscillator .noise)
     → Shows (synchronisedIf taken (voiced (clockedVoice v) modulator) .oscillator .noise)
-unfolding synchronisedIf Oscillator·synchronised voiced clockedVoice Oscillator·voiced latchedCode fedBack evaluated Oscillator·clocked
+unfolding synchronisedIf Oscillator·synchronised voicedBy clockedVoiceBy Oscillator·voicedBy latchedCode fedBack evaluatedBy Oscillator·clockedBy
 tick-shows v modulator true h = latched-shows _ (v .oscillator .control) _ _ (stepped-shows (v .oscillator .noise) _ _ _ h)
 tick-shows v modulator false h = latched-shows _ (v .oscillator .control) _ _ (stepped-shows (v .oscillator .noise) _ _ _ h)
 
@@ -74,7 +75,7 @@ abbrev Fits : ℕ → Type 0
 Fits n = n < 2 ^ 24
 
 tick-fits : (v : Voice) (modulator : ℕ) (taken : Bool) → Fits (phaseOf (synchronisedIf taken (voiced (clockedVoice v) modulator)))
-unfolding synchronisedIf Oscillator·synchronised resetPhase voiced clockedVoice Oscillator·voiced latchedCode latchedTone fedBack fedBackTone evaluated comparedTone Oscillator·clocked clockedTone
+unfolding synchronisedIf Oscillator·synchronised resetPhase voicedBy clockedVoiceBy Oscillator·voicedBy latchedCode latchedTone fedBack fedBackTone evaluatedBy comparedTone Oscillator·clockedBy clockedTone
 tick-fits v modulator true = omega arith
 tick-fits v modulator false =
     either Fits (feedsBack (v .oscillator .control) _) _ _ (omega arith) (either Fits (v .oscillator .control .«test_enabled») _ _ (omega arith) (omega arith))
@@ -96,7 +97,7 @@ unfolding resetVoice Oscillator·fresh
 call-sound =
     call-keeps Sound
     (λ v modulator taken h. record {
-      held-is-zero = subst Zero (sym (sync-envelope taken v modulator)) (held-is-zero (v .envelope) (h .held-is-zero));
+      held-is-zero = subst Zero (sym (sync-envelope afresh taken v modulator)) (held-is-zero (v .envelope) (h .held-is-zero));
       noise-shows = tick-shows v modulator taken (h .noise-shows);
       phase-fits = tick-fits v modulator taken;
       latched = voice-latched v modulator taken;

@@ -14,41 +14,42 @@ use Rattle.envelope.specs.Envelope.{clocked as Envelope·clocked, targetRefresh
 use Rattle.envelope.specs.declared.Envelope.{Envelope}
 use Rattle.oscillator.specs.Oscillator.{writtenControl, tuned, resetPhase, testedTone, written as Oscillator·written}
 use Rattle.oscillator.specs.declared.Oscillator.{Oscillator}
-use Rattle.sid.specs.Sid.{freshVoice, fresh, register, withBus, resetVoice, reset, writtenOscillator, writtenEnvelope, writtenVoice, writtenTo, written, readDriven, readAt, withPotX, withPotY, clockedVoice, clocked, voiced, voiced0, voiced1, voiced2, synchronisedIf, synchronised, ticked, Call, write, read, tick, clear, potX, potY, called, after}
+use Rattle.oscillator.specs.Ways.{Ways, afresh}
+use Rattle.sid.specs.Sid.{freshVoice, fresh, register, withBus, resetVoice, reset, writtenOscillator, writtenEnvelope, writtenVoice, writtenTo, written, readDriven, readAt, withPotX, withPotY, clockedVoice, clockedVoiceBy, clockedBy, voiced, voicedBy, voiced0By, voiced1By, voiced2By, synchronisedIf, synchronised, tickedBy, Call, write, read, tick, clear, potX, potY, called, after}
 use Rattle.sid.specs.declared.Voice.{Voice}
 use Rattle.sid.specs.declared.Mos6581.{Mos6581}
 use Rattle.sid.specs.declared.Read.{Read}
 use Rattle.calls.specs.Calls.{Which, voice-0, voice-1, voice-2, number, of, floating}
 
--- ---- a tick
+-- ---- a tick, by any ways
 
 -- seen from one voice: its clock, its part with the phase of the voice before it, and the synchronisation, taken or not
-pub record Ticks (v u : Voice) : Type 0 where
+pub record Ticks (ways : Ways) (v u : Voice) : Type 0 where
   pub modulator : ℕ
   pub taken : Bool
-  pub same : u ≡ synchronisedIf taken (voiced (clockedVoice v) modulator)
+  pub same : u ≡ synchronisedIf taken (voicedBy ways (clockedVoiceBy ways v) modulator)
 
-pub tick-voice : (w : Which) (c : Mos6581) → Ticks (of w c) (of w (ticked c))
-unfolding ticked synchronised voiced0 voiced1 voiced2 clocked
-tick-voice voice-0 c = record { modulator = _; taken = _; same = refl }
-tick-voice voice-1 c = record { modulator = _; taken = _; same = refl }
-tick-voice voice-2 c = record { modulator = _; taken = _; same = refl }
+pub tick-voice : (ways : Ways) (w : Which) (c : Mos6581) → Ticks ways (of w c) (of w (tickedBy ways c))
+unfolding tickedBy synchronised voiced0By voiced1By voiced2By clockedBy
+tick-voice ways voice-0 c = record { modulator = _; taken = _; same = refl }
+tick-voice ways voice-1 c = record { modulator = _; taken = _; same = refl }
+tick-voice ways voice-2 c = record { modulator = _; taken = _; same = refl }
 
 pub sync-envelope
-    : (taken : Bool) (v : Voice) (modulator : ℕ)
-    → synchronisedIf taken (voiced (clockedVoice v) modulator) .envelope ≡ Envelope·clocked (v .envelope)
-unfolding synchronisedIf voiced clockedVoice
-sync-envelope true v modulator = refl
-sync-envelope false v modulator = refl
+    : (ways : Ways) (taken : Bool) (v : Voice) (modulator : ℕ)
+    → synchronisedIf taken (voicedBy ways (clockedVoiceBy ways v) modulator) .envelope ≡ Envelope·clocked (v .envelope)
+unfolding synchronisedIf voicedBy clockedVoiceBy
+sync-envelope ways true v modulator = refl
+sync-envelope ways false v modulator = refl
 
-pub tick-envelope : (w : Which) (c : Mos6581) → of w (ticked c) .envelope ≡ Envelope·clocked (of w c .envelope)
-tick-envelope w c =
-    let t = tick-voice w c in
-    ap (λ (v : Voice). v .envelope) (t .same) ∙ sync-envelope (t .taken) (of w c) (t .modulator)
+pub tick-envelope : (ways : Ways) (w : Which) (c : Mos6581) → of w (tickedBy ways c) .envelope ≡ Envelope·clocked (of w c .envelope)
+tick-envelope ways w c =
+    let t = tick-voice ways w c in
+    ap (λ (v : Voice). v .envelope) (t .same) ∙ sync-envelope ways (t .taken) (of w c) (t .modulator)
 
-pub tick-bus : (c : Mos6581) → ticked c .«data_bus» ≡ Bus·clocked (c .«data_bus»)
-unfolding ticked synchronised voiced0 voiced1 voiced2 clocked
-tick-bus c = refl
+pub tick-bus : (ways : Ways) (c : Mos6581) → tickedBy ways c .«data_bus» ≡ Bus·clocked (c .«data_bus»)
+unfolding tickedBy synchronised voiced0By voiced1By voiced2By clockedBy
+tick-bus ways c = refl
 
 -- ---- reads, pots, resets, and a fresh chip
 
@@ -215,7 +216,7 @@ module _
   call-keeps w (write address value) c h =
       subst P (sym (write-voice w c address value)) (either P (eqb (register address / 7) (number w)) _ _ (by-write (of w c) (register address % 7) value h) h)
   call-keeps w (read address) c h = subst P (sym (read-voice w c address)) h
-  call-keeps w tick c h = let t = tick-voice w c in subst P (sym (t .same)) (by-tick (of w c) (t .modulator) (t .taken) h)
+  call-keeps w tick c h = let t = tick-voice afresh w c in subst P (sym (t .same)) (by-tick (of w c) (t .modulator) (t .taken) h)
   call-keeps w clear c h = subst P (sym (reset-voice w c)) (by-reset (of w c) h)
   call-keeps w (potX value) c h = subst P (sym (pot-x-voice w c value)) h
   call-keeps w (potY value) c h = subst P (sym (pot-y-voice w c value)) h

@@ -9,7 +9,7 @@ use lib.Bits.{bitOr, bitXor, xor-lt, or-shr, or-zero-l}
 use lib.Dec.{eqb}
 use lib.Pow.{shl-shr, field}
 use Rattle.laws.specs.Cycle.{never, after}
-use Rattle.noise.specs.Noise.{captures, captureNumbers, caught, clocked, come, feedback, shiftedState, shiftedNumbers, transferred, stepped}
+use Rattle.noise.specs.Noise.{captures, captureNumbers, caught, clocked, come, feedback, shiftedState, shiftedNumbers, transferred, stepped, steppedBy}
 use Rattle.noise.specs.declared.NoiseGenerator.{NoiseGenerator}
 
 -- stage 22 of a shift of 23 stages is the feedback
@@ -35,13 +35,13 @@ clocked-state g rising c = go (captures (g .numbers) rising)
 module _ (g : NoiseGenerator) (rising c : ℕ) where
   -- a rise with no shift under way
   pub rise-captures : rising / 2 ^ 19 % 2 ≡ 1 → g .numbers .«transfer_at» ≡ never → stepped g false rising c ≡ caught g c
-  unfolding stepped transferred clocked captures come
+  unfolding steppedBy transferred clocked captures come
   rise-captures r e = simp (e, r)
 
   module _ (under-way : g .numbers .«transfer_at» ≡ never → ⊥) where
     -- a clock on which the shift has not come changes nothing, whatever rises
     pub rise-ignored : c < g .numbers .«transfer_at» → stepped g false rising c ≡ g
-    unfolding stepped transferred clocked captures come
+    unfolding steppedBy transferred clocked captures come
     rise-ignored early =
         simp (ne-eqb (g .numbers .«transfer_at») never under-way, lt-leb (g .numbers .«transfer_at») c early) (go (not (eqb (rising / 2 ^ 19 % 2) 0)))
       where
@@ -51,7 +51,7 @@ module _ (g : NoiseGenerator) (rising c : ℕ) where
 
     -- the clock on which it lands shows the shifted stages; a rise on that clock captures them
     pub shift-lands : g .numbers .«transfer_at» ≤ c → stepped g false rising c .numbers .state ≡ shiftedState (g .numbers .captured)
-    unfolding stepped transferred come shiftedNumbers
+    unfolding steppedBy transferred come shiftedNumbers
     shift-lands due =
         clocked-state (transferred g c) rising c ∙ simp (ne-eqb (g .numbers .«transfer_at») never under-way, le-leb (g .numbers .«transfer_at») c due)
 

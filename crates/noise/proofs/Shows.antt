@@ -5,7 +5,7 @@ use Prim.Native.Nat.{ℕ, zero, suc, _^_}
 use lib.Bits.{bitOr}
 use Rattle.laws.specs.Times.{times}
 use Rattle.laws.proofs.Cond.{by-test, either}
-use Rattle.noise.specs.Noise.{shown, fresh, enteredTest, leftTest, captures, captureNumbers, clocked, transfers, shiftedNumbers, transferred, marks, relaxedStage, relaxedTo, relaxStep, settledTo, leakSteps, come, relaxed, coupled, pulledNumbers, pulledDown, stepped}
+use Rattle.noise.specs.Noise.{shown, fresh, enteredTest, leftTest, captures, captureNumbers, clocked, transfers, shiftedNumbers, transferred, marks, relaxedStage, relaxedTo, relaxStep, settledTo, leakSteps, come, relaxed, coupled, pulledNumbers, pulledDown, stepped, steppedBy}
 use Rattle.noise.specs.declared.NoiseGenerator.{NoiseGenerator}
 use Rattle.noise.specs.declared.Stages.{Stages}
 
@@ -60,7 +60,7 @@ unfolding fresh
 fresh-shows = refl
 
 pub stepped-shows : (g : NoiseGenerator) (test : Bool) (rising cycle : ℕ) → Shows g → Shows (stepped g test rising cycle)
-unfolding stepped
+unfolding steppedBy
 stepped-shows g test rising cycle h =
     either Shows test _ _ (relaxed-shows g cycle h) (clocked-shows (transferred g cycle) rising cycle (transferred-shows g cycle h))
 

@@ -1,5 +1,5 @@
 -- For a caller's loop, which holds a register's numbers apart from its charges and lends these only if a step is due.
--- Nothing here has to be believed: `step-still` (proofs/Still) ties `stepDue` to the rule `stepped`, and `generator`
+-- Nothing here has to be believed: `step-still` (proofs/Still) ties `stepDue` to the rule `steppedBy`, and `generator`
 -- has no rule in it.
 use Prim.Native.Nat.{ℕ}
 use mathlib.Core.Bool.{Bool, cond, _||_}

@@ -265,8 +265,12 @@ pulledDown g waveform cycle = record {
 
 -- a clock of the phase reaches the register: in test it relaxes, else the shift lands and a rise captures
 -- (clock_accumulator)
-unfoldable pub stepped : NoiseGenerator → Bool → ℕ → ℕ → NoiseGenerator
-stepped g test rising cycle = cond test (relaxed g cycle) (clocked (transferred g cycle) rising cycle)
+unfoldable pub steppedBy : (NoiseGenerator → ℕ → NoiseGenerator) → NoiseGenerator → Bool → ℕ → ℕ → NoiseGenerator
+steppedBy recover g test rising cycle = cond test (recover g cycle) (clocked (transferred g cycle) rising cycle)
+
+-- where it relaxes as document 01 says
+abbrev pub stepped : NoiseGenerator → Bool → ℕ → ℕ → NoiseGenerator
+stepped = steppedBy relaxed
 
 -- the clocks on which pulse alone reaches the register: the one on which the shift of a rise lands, and the one before
 -- (pulse_load_aperture of latch_output)

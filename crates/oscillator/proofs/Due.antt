@@ -1,5 +1,6 @@
 -- A part of a tick does what its rule says where its test is true (`…-due`, `code-loaded`), and nothing where it is
--- false (`…-still`, `code-plain`). Assumes nothing.
+-- false (`…-still`, `code-plain`), by any ways; the way lines leak must do nothing before a leak is due (`Still`), as
+-- document 01's does (`afresh-still`). Assumes nothing.
 use Prim.Native.Nat.{ℕ, _%_, _≤_}
 use native.Mathlib.Nat.{le-refl, le-trans}
 use borrow.Author.Tests.{eqb-true}
@@ -9,33 +10,44 @@ use mathlib.Core.List.{List}
 use mathlib.Core.Path.{_≡_, refl, ap, sym, _∙_}
 use lib.Dec.{eqb}
 use native.Mathlib.Omega.{arith}
-use Rattle.waveforms.specs.Waveforms.{drivers, needsLoading, loaded}
+use Rattle.waveforms.specs.Waveforms.{drivers, needsLoading}
 use Rattle.noise.specs.Noise.{coupled, coupledTo, pulledDown}
 use Rattle.noise.specs.Loop.{generator}
+use Rattle.noise.proofs.Still.{Recovers, relax-still}
 use Rattle.noise.specs.declared.Noise.{Noise}
 use Rattle.noise.specs.declared.NoiseGenerator.{NoiseGenerator}
 use Rattle.floating.specs.Floating.{leaks, sampled}
 use Rattle.floating.specs.declared.FloatingBus.{FloatingBus}
-use Rattle.oscillator.specs.Oscillator.{selected, ideal, waveformAt, code, loadsLines, loadedCode, sampledBus, couples, pullsDown, coupledNoise, pulledNoise}
+use Rattle.oscillator.specs.Ways.{Ways, afresh}
+use Rattle.oscillator.specs.Oscillator.{selected, ideal, waveformAtBy, codeBy, loadsLines, loadedCodeBy, sampledBusBy, couples, pullsDown, coupledNoise, pulledNoise}
 use Rattle.oscillator.specs.Loop.{plainCode, sampleDue}
 use Rattle.oscillator.specs.Selection.{isOff, has, joined, combined}
 use Rattle.oscillator.specs.declared.Control.{Control}
 use Rattle.oscillator.specs.declared.Tone.{Tone}
 
-pub sample-due : (c : Control) (b : FloatingBus) (cycle : ℕ) → sampleDue c (b .numbers) cycle ≡ true → sampledBus b c cycle ≡ sampled b cycle
-unfolding sampleDue sampledBus
-sample-due c b cycle e = go (isOff (selected c)) e
-  where
-    go : (t : Bool) → (t && leaks (b .numbers) cycle) ≡ true → cond t (sampled b cycle) b ≡ sampled b cycle
-    go true e = refl
-    go false e = ap (λ (x : Bool). cond x (sampled b cycle) b) e
+-- ways that do nothing before a leak is due, of the noise register in test and of floating lines
+pub record Still (w : Ways) : Type 0 where
+  pub recovers : Recovers (w .recover)
+  pub leak-still : (b : FloatingBus) (cycle : ℕ) → leaks (b .numbers) cycle ≡ false → w .leak b cycle ≡ b
 
-pub sample-still : (c : Control) (b : FloatingBus) (cycle : ℕ) → sampleDue c (b .numbers) cycle ≡ false → sampledBus b c cycle ≡ b
-unfolding sampleDue sampledBus sampled
-sample-still c b cycle e = go (isOff (selected c)) e
+pub afresh-still : Still afresh
+unfolding sampled
+afresh-still = record { recovers = relax-still; leak-still = λ b cycle e. simp e }
+
+pub sample-due : (w : Ways) (c : Control) (b : FloatingBus) (cycle : ℕ) → sampleDue c (b .numbers) cycle ≡ true → sampledBusBy w b c cycle ≡ w .leak b cycle
+unfolding sampleDue sampledBusBy
+sample-due w c b cycle e = go (isOff (selected c)) e
   where
-    go : (t : Bool) → (t && leaks (b .numbers) cycle) ≡ false → cond t (sampled b cycle) b ≡ b
-    go true e = simp e
+    go : (t : Bool) → (t && leaks (b .numbers) cycle) ≡ true → cond t (w .leak b cycle) b ≡ w .leak b cycle
+    go true e = refl
+    go false e = ap (λ (x : Bool). cond x (w .leak b cycle) b) e
+
+pub sample-still : {w : Ways} → Still w → (c : Control) (b : FloatingBus) (cycle : ℕ) → sampleDue c (b .numbers) cycle ≡ false → sampledBusBy w b c cycle ≡ b
+unfolding sampleDue sampledBusBy
+sample-still {w} still c b cycle e = go (isOff (selected c)) e
+  where
+    go : (t : Bool) → (t && leaks (b .numbers) cycle) ≡ false → cond t (w .leak b cycle) b ≡ b
+    go true e = still .leak-still b cycle e
     go false e = refl
 
 -- only the charges that are held are coupled into
@@ -57,9 +69,9 @@ pub pull-still : (g : NoiseGenerator) (c : Control) (latched cycle : ℕ) → pu
 unfolding pulledNoise
 pull-still g c latched cycle e = rw e refl
 
-pub code-plain : (c : Control) (t : Tone) (visible floats m : ℕ) → loadsLines c ≡ false → code c t visible floats m ≡ plainCode c t visible floats m
-unfolding code plainCode waveformAt
-code-plain c t visible floats m e = rw e refl
+pub code-plain : (w : Ways) (c : Control) (t : Tone) (visible floats m : ℕ) → loadsLines c ≡ false → codeBy w c t visible floats m ≡ plainCode c t visible floats m
+unfolding codeBy plainCode waveformAtBy
+code-plain w c t visible floats m e = rw e refl
 
 -- lines joined from 0xfff fit twelve bits
 ideal-small : (c : Control) (t : Tone) (visible m : ℕ) → isOff (selected c) ≡ false → ideal c t visible m % 4096 ≡ ideal c t visible m
@@ -80,12 +92,13 @@ unloaded : (c : Control) → selected c .raw ≡ 0 → loadsLines c ≡ false
 unfolding loadsLines needsLoading drivers
 unloaded c e = rw e refl
 
-pub code-loaded : (c : Control) (t : Tone) (visible floats m : ℕ) → loadsLines c ≡ true → code c t visible floats m ≡ loadedCode c (plainCode c t visible floats m)
-unfolding code plainCode loadedCode waveformAt
-code-loaded c t visible floats m e = rw e (go (eqb (selected c .raw) 0) refl)
+pub code-loaded
+    : (w : Ways) (c : Control) (t : Tone) (visible floats m : ℕ) → loadsLines c ≡ true → codeBy w c t visible floats m ≡ loadedCodeBy w c (plainCode c t visible floats m)
+unfolding codeBy plainCode loadedCodeBy waveformAtBy
+code-loaded w c t visible floats m e = rw e (go (eqb (selected c .raw) 0) refl)
   where
     go : (off : Bool) → eqb (selected c .raw) 0 ≡ off
-        → cond off (floats % 4096) (loaded (selected c .raw) (ideal c t visible m) % 4096)
-        ≡ loaded (selected c .raw) (cond off (floats % 4096) (ideal c t visible m % 4096)) % 4096
+        → cond off (floats % 4096) (w .load (selected c .raw) (ideal c t visible m) % 4096)
+        ≡ w .load (selected c .raw) (cond off (floats % 4096) (ideal c t visible m % 4096)) % 4096
     go true o = absurd (true≢false (sym e ∙ unloaded c (eqb-true (selected c .raw) 0 o)))
-    go false o = ap (λ (x : ℕ). loaded (selected c .raw) x % 4096) (sym (ideal-small c t visible m o))
+    go false o = ap (λ (x : ℕ). w .load (selected c .raw) x % 4096) (sym (ideal-small c t visible m o))

@@ -10,7 +10,8 @@ use Rattle.laws.specs.Cycle.{after}
 use Rattle.floating.proofs.Fade.{lines-whole, lines-gone}
 use Rattle.floating.specs.Floating.{captured, sampled, samples}
 use Rattle.floating.specs.declared.FloatingBus.{FloatingBus}
-use Rattle.oscillator.specs.Oscillator.{clockedTone, clocked, comparedTone, code, sampledBus, evaluated, fedBackTone, fedBack, latchedTone, latchedCode, writtenControl, writtenBus, resetPhase, testedTone, written, voiced, ticked, ticks}
+use Rattle.oscillator.specs.Ways.{Ways, afresh}
+use Rattle.oscillator.specs.Oscillator.{clockedTone, clockedBy, comparedTone, codeBy, sampledBusBy, evaluatedBy, fedBackTone, fedBack, latchedTone, latchedCode, writtenControl, writtenBus, resetPhase, testedTone, written, voicedBy, tickedBy, ticks, ticksBy}
 use Rattle.oscillator.specs.declared.Control.{Control}
 use Rattle.oscillator.specs.declared.Oscillator.{Oscillator}
 
@@ -18,53 +19,53 @@ use Rattle.oscillator.specs.declared.Oscillator.{Oscillator}
 pub small : (x : ℕ) → x % 4096 % 4096 ≡ x % 4096
 small x = omega arith
 
--- one tick of a voice
-module _ (o : Oscillator) (m : ℕ) where
-  pub tick-control : ticked o m .control ≡ o .control
-  unfolding ticked voiced latchedCode fedBack evaluated clocked
+-- one tick of a voice, by any ways
+module _ (w : Ways) (o : Oscillator) (m : ℕ) where
+  pub tick-control : tickedBy w o m .control ≡ o .control
+  unfolding tickedBy voicedBy latchedCode fedBack evaluatedBy clockedBy
   tick-control = refl
 
-  pub tick-cycle : ticked o m .tone .cycle ≡ after (o .tone .cycle) 1
-  unfolding ticked voiced latchedCode fedBack evaluated clocked latchedTone fedBackTone comparedTone clockedTone
+  pub tick-cycle : tickedBy w o m .tone .cycle ≡ after (o .tone .cycle) 1
+  unfolding tickedBy voicedBy latchedCode fedBack evaluatedBy clockedBy latchedTone fedBackTone comparedTone clockedTone
   tick-cycle = refl
 
   -- with nothing selected the lines are sampled, and the code is what they show
   module _ (off : o .control .waveform % 16 ≡ 0) where
-    pub tick-lines : ticked o m .bus ≡ sampled (o .bus) (after (o .tone .cycle) 1)
-    unfolding ticked voiced latchedCode fedBack evaluated clocked clockedTone sampledBus
+    pub tick-lines : tickedBy w o m .bus ≡ w .leak (o .bus) (after (o .tone .cycle) 1)
+    unfolding tickedBy voicedBy latchedCode fedBack evaluatedBy clockedBy clockedTone sampledBusBy
     tick-lines = simp (eq-eqb (o .control .waveform % 16) 0 off)
 
-    pub tick-floats : ticked o m .tone .«last_sample» ≡ sampled (o .bus) (after (o .tone .cycle) 1) .numbers .value % 4096
-    unfolding ticked voiced latchedCode fedBack evaluated clocked clockedTone sampledBus code latchedTone
+    pub tick-floats : tickedBy w o m .tone .«last_sample» ≡ w .leak (o .bus) (after (o .tone .cycle) 1) .numbers .value % 4096
+    unfolding tickedBy voicedBy latchedCode fedBack evaluatedBy clockedBy clockedTone sampledBusBy codeBy latchedTone
     tick-floats = simp (eq-eqb (o .control .waveform % 16) 0 off) (small _)
 
 -- n ticks with nothing selected
 module _ (ms : ℕ → ℕ) (o : Oscillator) (off : o .control .waveform % 16 ≡ 0) (fits : o .tone .cycle < 2 ^ 64) where
   ticks-control : (n : ℕ) → ticks n o ms .control ≡ o .control
-  unfolding ticks
+  unfolding ticksBy
   ticks-control zero = refl
-  ticks-control (suc n) = tick-control (ticks n o ms) (ms n) ∙ ticks-control n
+  ticks-control (suc n) = tick-control afresh (ticks n o ms) (ms n) ∙ ticks-control n
 
   ticks-off : (n : ℕ) → ticks n o ms .control .waveform % 16 ≡ 0
   ticks-off n = ap (λ (k : Control). k .waveform % 16) (ticks-control n) ∙ off
 
   ticks-cycle : (n : ℕ) → ticks n o ms .tone .cycle ≡ after (o .tone .cycle) n
-  unfolding ticks
+  unfolding ticksBy
   ticks-cycle zero = omega arith
-  ticks-cycle (suc n) = tick-cycle (ticks n o ms) (ms n) ∙ ap (λ (x : ℕ). after x 1) (ticks-cycle n) ∙ omega arith
+  ticks-cycle (suc n) = tick-cycle afresh (ticks n o ms) (ms n) ∙ ap (λ (x : ℕ). after x 1) (ticks-cycle n) ∙ omega arith
 
   next-cycle : (n : ℕ) → after (ticks n o ms .tone .cycle) 1 ≡ after (o .tone .cycle) (suc n)
   next-cycle n = ap (λ (x : ℕ). after x 1) (ticks-cycle n) ∙ omega arith
 
   ticks-lines : (n : ℕ) → ticks n o ms .bus ≡ samples n (o .bus) (o .tone .cycle)
-  unfolding ticks samples
+  unfolding ticksBy samples
   ticks-lines zero = refl
-  ticks-lines (suc n) = tick-lines (ticks n o ms) (ms n) (ticks-off n) ∙ ap₂ sampled (ticks-lines n) (next-cycle n)
+  ticks-lines (suc n) = tick-lines afresh (ticks n o ms) (ms n) (ticks-off n) ∙ ap₂ sampled (ticks-lines n) (next-cycle n)
 
   ticks-floats : (n : ℕ) → ticks (suc n) o ms .tone .«last_sample» ≡ samples (suc n) (o .bus) (o .tone .cycle) .numbers .value % 4096
-  unfolding ticks samples
+  unfolding ticksBy samples
   ticks-floats n =
-      tick-floats (ticks n o ms) (ms n) (ticks-off n) ∙ ap₂ (λ (f : FloatingBus) (k : ℕ). sampled f k .numbers .value % 4096) (ticks-lines n) (next-cycle n)
+      tick-floats afresh (ticks n o ms) (ms n) (ticks-off n) ∙ ap₂ (λ (f : FloatingBus) (k : ℕ). sampled f k .numbers .value % 4096) (ticks-lines n) (next-cycle n)
 
 -- a write of selection 0 over another leaves the last code on the lines, at the cycle of the write
 pub write-captures

@@ -8,7 +8,8 @@ use lib.Bits.{and-comm, and-mask}
 use lib.Dec.{leb}
 use Rattle.waveforms.specs.Waveforms.{drivers, needsLoading, loaded}
 use Rattle.oscillator.proofs.Floats.{tick-control}
-use Rattle.oscillator.specs.Oscillator.{clockedTone, clocked, phase, pulse, comparedTone, ideal, loadsLines, loadedCode, waveformAt, code, evaluated, fedBackTone, fedBack, latchedTone, latchedCode, voiced, ticked}
+use Rattle.oscillator.specs.Ways.{afresh}
+use Rattle.oscillator.specs.Oscillator.{clockedTone, clockedBy, phase, pulse, comparedTone, ideal, loadsLines, loadedCodeBy, waveformAtBy, code, codeBy, evaluatedBy, fedBackTone, fedBack, latchedTone, latchedCode, voicedBy, ticked, tickedBy}
 use Rattle.oscillator.specs.Selection.{combined}
 use Rattle.oscillator.specs.declared.Control.{Control}
 use Rattle.oscillator.specs.declared.Oscillator.{Oscillator}
@@ -16,17 +17,17 @@ use Rattle.oscillator.specs.declared.Tone.{Tone}
 
 -- the code of pulse alone
 code-pulse : (c : Control) (t : Tone) (visible floats m : ℕ) → c .waveform % 16 ≡ 4 → code c t visible floats m ≡ pulse c t % 4096
-unfolding code waveformAt loadsLines loadedCode ideal combined loaded needsLoading drivers
+unfolding codeBy waveformAtBy loadsLines loadedCodeBy ideal combined loaded needsLoading drivers
 code-pulse c t visible floats m e = simp e (ap (λ (x : ℕ). x % 4096) (and-comm 0xfff (pulse c t) ∙ and-mask (pulse c t) 12) ∙ omega arith)
 
 module _ (o : Oscillator) (m : ℕ) where
   -- a tick compares, for the tick after it
   pub tick-compares : ticked o m .tone .«pulse_output» ≡ cond (leb (o .control .«pulse_width») (phase (clockedTone (o .tone) (o .control)))) 0xfff 0
-  unfolding ticked voiced latchedCode latchedTone fedBack fedBackTone evaluated comparedTone clocked
+  unfolding tickedBy voicedBy latchedCode latchedTone fedBack fedBackTone evaluatedBy comparedTone clockedBy
   tick-compares = refl
 
   pub tick-pulse : o .control .waveform % 16 ≡ 4 → ticked o m .tone .«last_sample» ≡ cond (o .control .«test_enabled») 0xfff (o .tone .«pulse_output») % 4096
-  unfolding ticked voiced latchedCode latchedTone fedBack evaluated clocked clockedTone
+  unfolding tickedBy voicedBy latchedCode latchedTone fedBack evaluatedBy clockedBy clockedTone
   tick-pulse e = ap (λ (x : ℕ). x % 4096) (code-pulse (o .control) (clockedTone (o .tone) (o .control)) _ _ m e) ∙ omega arith
 
 -- THE LAW
@@ -40,8 +41,8 @@ module _ (o : Oscillator) (m : ℕ) (alone : o .control .waveform % 16 ≡ 4) wh
       → o .control .«test_enabled» ≡ false
       → ticked (ticked o m) next .tone .«last_sample» ≡ cond (leb (o .control .«pulse_width») (phase (clockedTone (o .tone) (o .control)))) 0xfff 0
   pulse-one-later next e =
-      tick-pulse (ticked o m) next (ap (λ (c : Control). c .waveform % 16) (tick-control o m) ∙ alone)
-      ∙ ap (λ (c : Control). cond (c .«test_enabled») 0xfff (ticked o m .tone .«pulse_output») % 4096) (tick-control o m)
+      tick-pulse (ticked o m) next (ap (λ (c : Control). c .waveform % 16) (tick-control afresh o m) ∙ alone)
+      ∙ ap (λ (c : Control). cond (c .«test_enabled») 0xfff (ticked o m .tone .«pulse_output») % 4096) (tick-control afresh o m)
       ∙ simp e (ap (λ (x : ℕ). x % 4096) (tick-compares o m) ∙ go (leb (o .control .«pulse_width») (phase (clockedTone (o .tone) (o .control)))))
     where
       go : (t : Bool) → cond t 0xfff 0 % 4096 ≡ cond t 0xfff 0

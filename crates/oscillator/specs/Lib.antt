@@ -1,3 +1,4 @@
 pub mod Loop
 pub mod Oscillator
 pub mod Selection
+pub mod Ways

@@ -1,6 +1,6 @@
 -- For a caller's loop, which lends the floating lines' charges only where they leak, and settles lines under a test.
--- Nothing here has to be believed: proofs/Due ties `sampleDue` to the rule `sampledBus` (`sample-due`,
--- `sample-still`), and `plainCode` to the rule `code` (`code-plain`, `code-loaded`).
+-- Nothing here has to be believed: proofs/Due ties `sampleDue` to the rule `sampledBusBy` (`sample-due`,
+-- `sample-still`), and `plainCode` to the rule `codeBy` (`code-plain`, `code-loaded`).
 use Prim.Native.Nat.{ℕ, _%_}
 use mathlib.Core.Bool.{Bool, cond, _&&_}
 use Rattle.floating.specs.Floating.{leaks}

@@ -6,12 +6,13 @@ use mathlib.Core.Bool.{Bool, false, cond, not, _&&_, _||_}
 use lib.Bits.{bitAnd, bitOr, bitXor}
 use lib.Dec.{eqb, leb}
 use Rattle.laws.specs.Cycle.{after}
-use Rattle.waveforms.specs.Waveforms.{triangle, needsLoading, loaded}
-use Rattle.noise.specs.Noise.{fresh as Noise·fresh, enteredTest, leftTest, coupled, pulledDown, stepped, pulseLoadAperture}
+use Rattle.waveforms.specs.Waveforms.{triangle, needsLoading}
+use Rattle.noise.specs.Noise.{fresh as Noise·fresh, enteredTest, leftTest, coupled, pulledDown, steppedBy, pulseLoadAperture}
 use Rattle.noise.specs.declared.Noise.{Noise}
 use Rattle.noise.specs.declared.NoiseGenerator.{NoiseGenerator}
-use Rattle.floating.specs.Floating.{fresh as Floating·fresh, captured, sampled}
+use Rattle.floating.specs.Floating.{fresh as Floating·fresh, captured}
 use Rattle.floating.specs.declared.FloatingBus.{FloatingBus}
+use Rattle.oscillator.specs.Ways.{Ways, afresh}
 use Rattle.oscillator.specs.Selection.{select, isOff, has, isCombined, combined}
 use Rattle.oscillator.specs.declared.WaveformSelect.{WaveformSelect}
 use Rattle.oscillator.specs.declared.Control.{Control}
@@ -50,11 +51,12 @@ clockedTone t c = record {
 }
 
 -- one clock of the phase, and of the noise register with what rises (clock_accumulator)
-unfoldable pub clocked : Oscillator → Oscillator
-clocked o = record {
+unfoldable pub clockedBy : Ways → Oscillator → Oscillator
+clockedBy w o = record {
   control = o .control;
   tone = clockedTone (o .tone) (o .control);
-  noise = stepped (o .noise) (o .control .«test_enabled») (rising (o .tone .accumulator) (clockedTone (o .tone) (o .control) .accumulator)) (clockedTone (o .tone) (o .control) .cycle);
+  noise = steppedBy (w .recover) (o .noise) (o .control .«test_enabled»)
+      (rising (o .tone .accumulator) (clockedTone (o .tone) (o .control) .accumulator)) (clockedTone (o .tone) (o .control) .cycle);
   bus = o .bus;
 }
 
@@ -100,30 +102,30 @@ unfoldable pub loadsLines : Control → Bool
 loadsLines c = not (eqb (selected c .raw) 9) && needsLoading (selected c .raw)
 
 -- a code with its lines loaded (waveform_at_phase)
-unfoldable pub loadedCode : Control → ℕ → ℕ
-loadedCode c plain = loaded (selected c .raw) plain % 4096
+unfoldable pub loadedCodeBy : Ways → Control → ℕ → ℕ
+loadedCodeBy w c plain = w .load (selected c .raw) plain % 4096
 
 -- the joined lines, loaded or not (waveform_at_phase)
-unfoldable pub waveformAt : Control → Tone → ℕ → ℕ → ℕ
-waveformAt c t visible modulator = cond (loadsLines c) (loadedCode c (ideal c t visible modulator)) (ideal c t visible modulator % 4096)
+unfoldable pub waveformAtBy : Ways → Control → Tone → ℕ → ℕ → ℕ
+waveformAtBy w c t visible modulator = cond (loadsLines c) (loadedCodeBy w c (ideal c t visible modulator)) (ideal c t visible modulator % 4096)
 
 -- the code: what floats where nothing is selected, else the waveforms' (evaluate_output)
-unfoldable pub code : Control → Tone → ℕ → ℕ → ℕ → ℕ
-code c t visible floats modulator = cond (isOff (selected c)) (floats % 4096) (waveformAt c t visible modulator)
+unfoldable pub codeBy : Ways → Control → Tone → ℕ → ℕ → ℕ → ℕ
+codeBy w c t visible floats modulator = cond (isOff (selected c)) (floats % 4096) (waveformAtBy w c t visible modulator)
 
 -- the floating lines leak only where nothing is selected (evaluate_output)
-unfoldable pub sampledBus : FloatingBus → Control → ℕ → FloatingBus
-sampledBus b c cycle = cond (isOff (selected c)) (sampled b cycle) b
+unfoldable pub sampledBusBy : Ways → FloatingBus → Control → ℕ → FloatingBus
+sampledBusBy w b c cycle = cond (isOff (selected c)) (w .leak b cycle) b
 
 -- the code, from the comparison made before, and the voice with the lines and the comparison made now (evaluate_output)
-unfoldable pub evaluated : Oscillator → ℕ → Evaluated
-evaluated o modulator = record {
-  code = code (o .control) (o .tone) (o .noise .numbers .visible) (sampledBus (o .bus) (o .control) (o .tone .cycle) .numbers .value) modulator;
+unfoldable pub evaluatedBy : Ways → Oscillator → ℕ → Evaluated
+evaluatedBy w o modulator = record {
+  code = codeBy w (o .control) (o .tone) (o .noise .numbers .visible) (sampledBusBy w (o .bus) (o .control) (o .tone .cycle) .numbers .value) modulator;
   oscillator = record {
     control = o .control;
     tone = comparedTone (o .tone) (o .control);
     noise = o .noise;
-    bus = sampledBus (o .bus) (o .control) (o .tone .cycle);
+    bus = sampledBusBy w (o .bus) (o .control) (o .tone .cycle);
   };
 }
 
@@ -296,13 +298,42 @@ synchronised o = record { control = o .control; tone = resetPhase (o .tone); noi
 -- ---- 'Tick order', one voice's part, with the modulator's phase given: 'evaluate, feedback, latch', after the clock
 -- of its phase (tick)
 
-unfoldable pub voiced : Oscillator → ℕ → Oscillator
-voiced o modulator = latchedCode (fedBack (evaluated o modulator .oscillator) (evaluated o modulator .code)) (evaluated o modulator .code)
+unfoldable pub voicedBy : Ways → Oscillator → ℕ → Oscillator
+voicedBy w o modulator = latchedCode (fedBack (evaluatedBy w o modulator .oscillator) (evaluatedBy w o modulator .code)) (evaluatedBy w o modulator .code)
 
-unfoldable pub ticked : Oscillator → ℕ → Oscillator
-ticked o modulator = voiced (clocked o) modulator
+unfoldable pub tickedBy : Ways → Oscillator → ℕ → Oscillator
+tickedBy w o modulator = voicedBy w (clockedBy w o) modulator
 
 -- 'Left so': n ticks, the modulator's phase given for each
-unfoldable pub ticks : ℕ → Oscillator → (ℕ → ℕ) → Oscillator
-ticks zero o modulators = o
-ticks (suc n) o modulators = ticked (ticks n o modulators) (modulators n)
+unfoldable pub ticksBy : Ways → ℕ → Oscillator → (ℕ → ℕ) → Oscillator
+ticksBy w zero o modulators = o
+ticksBy w (suc n) o modulators = tickedBy w (ticksBy w n o modulators) (modulators n)
+
+-- ---- the same by document 01's ways
+
+abbrev pub clocked : Oscillator → Oscillator
+clocked = clockedBy afresh
+
+abbrev pub loadedCode : Control → ℕ → ℕ
+loadedCode = loadedCodeBy afresh
+
+abbrev pub waveformAt : Control → Tone → ℕ → ℕ → ℕ
+waveformAt = waveformAtBy afresh
+
+abbrev pub code : Control → Tone → ℕ → ℕ → ℕ → ℕ
+code = codeBy afresh
+
+abbrev pub sampledBus : FloatingBus → Control → ℕ → FloatingBus
+sampledBus = sampledBusBy afresh
+
+abbrev pub evaluated : Oscillator → ℕ → Evaluated
+evaluated = evaluatedBy afresh
+
+abbrev pub voiced : Oscillator → ℕ → Oscillator
+voiced = voicedBy afresh
+
+abbrev pub ticked : Oscillator → ℕ → Oscillator
+ticked = tickedBy afresh
+
+abbrev pub ticks : ℕ → Oscillator → (ℕ → ℕ) → Oscillator
+ticks = ticksBy afresh

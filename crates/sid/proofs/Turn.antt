@@ -1,5 +1,5 @@
--- One tick of a voice, and of the chip, follows from what code over their parts knows of it: what each call ensures,
--- and by which way each branch came. Assumes nothing.
+-- One tick of a voice, and of the chip, by any ways that are `Still`, follows from what code over their parts knows of
+-- it: what each call ensures, and by which way each branch came. Assumes nothing.
 use mathlib.Core.Path.{_≡_, refl, ap, sym, _∙_}
 use mathlib.Core.Bool.{Bool, true, false, cond}
 use mathlib.Core.List.{List}
@@ -12,23 +12,23 @@ use Rattle.bus.proofs.Clock.{clocked-empty}
 use Rattle.envelope.specs.Envelope.{levelRead, rateClocked, quiescent, clocked as Envelope·clocked}
 use Rattle.envelope.specs.declared.Envelope.{Envelope}
 use Rattle.envelope.proofs.Quiet.{quiet-clock}
-use Rattle.noise.specs.Noise.{stepped, coupledTo, pulledDown}
+use Rattle.noise.specs.Noise.{steppedBy, coupledTo, pulledDown}
 use Rattle.noise.specs.Loop.{generator, stepDue}
 use Rattle.noise.specs.declared.Noise.{Noise}
 use Rattle.noise.specs.declared.NoiseGenerator.{NoiseGenerator}
 use Rattle.noise.proofs.Still.{step-still}
-use Rattle.floating.specs.Floating.{sampled}
 use Rattle.floating.specs.Loop.{lines}
 use Rattle.floating.specs.declared.Floating.{Floating}
 use Rattle.floating.specs.declared.FloatingBus.{FloatingBus}
-use Rattle.oscillator.specs.Oscillator.{rising, clockedTone, clocked as Oscillator·clocked, comparedTone, fedBackTone, latchedTone, resetPhase}
-use Rattle.oscillator.specs.Oscillator.{loadedCode, loadsLines, code, sampledBus, couples, pullsDown, coupledNoise, pulledNoise}
+use Rattle.oscillator.specs.Ways.{Ways}
+use Rattle.oscillator.specs.Oscillator.{rising, clockedTone, clockedBy as Oscillator·clockedBy, comparedTone, fedBackTone, latchedTone, resetPhase}
+use Rattle.oscillator.specs.Oscillator.{loadedCodeBy, loadsLines, codeBy, sampledBusBy, couples, pullsDown, coupledNoise, pulledNoise}
 use Rattle.oscillator.specs.Loop.{sampleDue, plainCode}
 use Rattle.oscillator.specs.declared.Control.{Control}
 use Rattle.oscillator.specs.declared.Tone.{Tone}
-use Rattle.oscillator.proofs.Due.{sample-due, sample-still, couple-due, couple-still, pull-due, pull-still, code-loaded, code-plain}
+use Rattle.oscillator.proofs.Due.{Still, sample-due, sample-still, couple-due, couple-still, pull-due, pull-still, code-loaded, code-plain}
 use Rattle.sid.proofs.Ticks.{pack, same-charge, voice-parts, sync-parts, chip-parts}
-use Rattle.sid.specs.Sid.{clockedVoice, voiced, syncs, ticked, ticks}
+use Rattle.sid.specs.Sid.{clockedVoiceBy, voicedBy, syncs, tickedBy, ticksBy}
 use Rattle.sid.specs.declared.Voice.{Voice}
 use Rattle.sid.specs.declared.Mos6581.{Mos6581}
 
@@ -37,7 +37,7 @@ abbrev pub parts : Control → Tone → Noise → List ℕ → List ℕ → Floa
 parts k t n held charge f wires e = pack k t (generator n held charge) (lines f wires) e
 
 -- any voice, up to its latch
-module _ (v : Voice) where
+module _ {ways : Ways} (still : Still ways) (v : Voice) where
   abbrev k : Control
   k = v .oscillator .control
 
@@ -56,20 +56,20 @@ module _ (v : Voice) where
       → t1 ≡ clockedTone t k
       → up ≡ rising (t .accumulator) (t1 .accumulator)
       → steps ≡ stepDue (g .numbers) (k .«test_enabled») up (t1 .cycle)
-      → After steps (stepped g (k .«test_enabled») up (t1 .cycle)) g (generator n1 held1 charge1)
+      → After steps (steppedBy (ways .recover) g (k .«test_enabled») up (t1 .cycle)) g (generator n1 held1 charge1)
       → rests ≡ quiescent (v .envelope)
       → After rests (rateClocked (levelRead (v .envelope))) (Envelope·clocked (v .envelope)) e1
       → leaks ≡ sampleDue k (b .numbers) (t1 .cycle)
-      → After leaks (sampled b (t1 .cycle)) b (lines f1 wires1)
+      → After leaks (ways .leak b (t1 .cycle)) b (lines f1 wires1)
       → plain ≡ plainCode k t1 (n1 .visible) (f1 .value) modulator
       → loads ≡ loadsLines k
-      → After loads (loadedCode k plain) plain output
+      → After loads (loadedCodeBy ways k plain) plain output
       → t2 ≡ latchedTone (fedBackTone (comparedTone t1 k) k output) output
       → feeds ≡ couples k
       → After feeds (coupledTo output charge1 8) charge1 charge2
       → pulls ≡ pullsDown k n1 (t1 .cycle)
       → After pulls (pulledDown (generator n1 held1 charge2) output (t1 .cycle)) (generator n1 held1 charge2) (generator n2 held2 charge3)
-      → parts k t2 n2 held2 charge3 f1 wires1 e1 ≡ voiced (clockedVoice v) modulator
+      → parts k t2 n2 held2 charge3 f1 wires1 e1 ≡ voicedBy ways (clockedVoiceBy ways v) modulator
   turn modulator {t1} {t2} {n1} {n2} {held1} {held2} {charge1} {charge2} {charge3} {f1} {wires1} {e1} {up} {plain} {output} {feeds = feeds}
       toned rose steps? stepped? rests? moved? leaks? sampled? plainly loads? loaded? sounded feeds? fed? pulls? pulled? =
       let e = v .envelope in
@@ -77,13 +77,14 @@ module _ (v : Voice) where
       let g2 : NoiseGenerator = generator n1 held1 charge2 in
       let test = k .«test_enabled» in
       let cycle = t1 .cycle in
-      voice-parts k t g b e modulator t1 g1 (lines f1 wires1) output t2 g2 (generator n2 held2 charge3) e1
+      voice-parts ways k t g b e modulator t1 g1 (lines f1 wires1) output t2 g2 (generator n2 held2 charge3) e1
       toned
-      (after-due (stepped g test up cycle) steps? stepped? (λ h. refl) (step-still g test up cycle) ∙ ap (λ (x : ℕ). stepped g test x cycle) rose)
-      (after-due (sampledBus b k cycle) leaks? sampled? (sample-due k b cycle) (sample-still k b cycle))
-      (after-due (code k t1 (n1 .visible) (f1 .value) modulator) loads? loaded?
-      (λ h. code-loaded k t1 (n1 .visible) (f1 .value) modulator h ∙ ap (loadedCode k) (sym plainly))
-      (λ h. code-plain k t1 (n1 .visible) (f1 .value) modulator h ∙ sym plainly))
+      (after-due (steppedBy (ways .recover) g test up cycle) steps? stepped? (λ h. refl) (step-still (still .recovers) g test up cycle)
+      ∙ ap (λ (x : ℕ). steppedBy (ways .recover) g test x cycle) rose)
+      (after-due (sampledBusBy ways b k cycle) leaks? sampled? (sample-due ways k b cycle) (sample-still still k b cycle))
+      (after-due (codeBy ways k t1 (n1 .visible) (f1 .value) modulator) loads? loaded?
+      (λ h. code-loaded ways k t1 (n1 .visible) (f1 .value) modulator h ∙ ap (loadedCodeBy ways k) (sym plainly))
+      (λ h. code-plain ways k t1 (n1 .visible) (f1 .value) modulator h ∙ sym plainly))
       sounded
       (coupled fed?)
       (after-due (pulledNoise g2 k output cycle) pulls? pulled? (pull-due g2 k output cycle) (pull-still g2 k output cycle))
@@ -108,23 +109,23 @@ whole b x y v0 v1 v2 = record { «voice_0» = v0; «voice_1» = v1; «voice_2» 
 
 -- the chip: the bus, each voice's turn, and synchronisation
 pub round
-    : (v0 v1 v2 : Voice) {b b1 : InternalDataBus} {x y : ℕ} {k0 k1 k2 : Control} {t0 t1 t2 u0 u1 u2 s : Tone}
+    : (ways : Ways) (v0 v1 v2 : Voice) {b b1 : InternalDataBus} {x y : ℕ} {k0 k1 k2 : Control} {t0 t1 t2 u0 u1 u2 s : Tone}
     {g0 g1 g2 : NoiseGenerator} {l0 l1 l2 : FloatingBus} {e0 e1 e2 : Envelope}
     → Fade b b1
-    → pack k0 t0 g0 l0 e0 ≡ voiced (clockedVoice v0) (s .accumulator)
-    → pack k1 t1 g1 l1 e1 ≡ voiced (clockedVoice v1) (t0 .accumulator)
-    → pack k2 t2 g2 l2 e2 ≡ voiced (clockedVoice v2) (t1 .accumulator)
+    → pack k0 t0 g0 l0 e0 ≡ voicedBy ways (clockedVoiceBy ways v0) (s .accumulator)
+    → pack k1 t1 g1 l1 e1 ≡ voicedBy ways (clockedVoiceBy ways v1) (t0 .accumulator)
+    → pack k2 t2 g2 l2 e2 ≡ voicedBy ways (clockedVoiceBy ways v2) (t1 .accumulator)
     → s ≡ clockedTone (v2 .oscillator .tone) (v2 .oscillator .control)
     → u0 ≡ cond (syncs (t2 .«msb_rising») (k0 .«sync_enabled») (k2 .«sync_enabled») (t1 .«msb_rising»)) (resetPhase t0) t0
     → u1 ≡ cond (syncs (t0 .«msb_rising») (k1 .«sync_enabled») (k0 .«sync_enabled») (t2 .«msb_rising»)) (resetPhase t1) t1
     → u2 ≡ cond (syncs (t1 .«msb_rising») (k2 .«sync_enabled») (k1 .«sync_enabled») (t0 .«msb_rising»)) (resetPhase t2) t2
-    → whole b1 x y (pack k0 u0 g0 l0 e0) (pack k1 u1 g1 l1 e1) (pack k2 u2 g2 l2 e2) ≡ ticked (whole b x y v0 v1 v2)
-unfolding clockedVoice Oscillator·clocked
-round v0 v1 v2 {b} {b1} {x} {y} {k0} {k1} {k2} {t0} {t1} {t2} {u0} {u1} {u2} {s} {g0} {g1} {g2} {l0} {l1} {l2} {e0} {e1} {e2} o p q r m f g h =
-    chip-parts (whole b x y v0 v1 v2) b1 (pack k0 t0 g0 l0 e0) (pack k1 t1 g1 l1 e1) (pack k2 t2 g2 l2 e2)
-    (faded o) (p ∙ ap (voiced (clockedVoice v0)) (ap (λ (z : Tone). z .accumulator) m)) q r _ _ _
+    → whole b1 x y (pack k0 u0 g0 l0 e0) (pack k1 u1 g1 l1 e1) (pack k2 u2 g2 l2 e2) ≡ tickedBy ways (whole b x y v0 v1 v2)
+unfolding clockedVoiceBy Oscillator·clockedBy
+round ways v0 v1 v2 {b} {b1} {x} {y} {k0} {k1} {k2} {t0} {t1} {t2} {u0} {u1} {u2} {s} {g0} {g1} {g2} {l0} {l1} {l2} {e0} {e1} {e2} o p q r m f g h =
+    chip-parts ways (whole b x y v0 v1 v2) b1 (pack k0 t0 g0 l0 e0) (pack k1 t1 g1 l1 e1) (pack k2 t2 g2 l2 e2)
+    (faded o) (p ∙ ap (voicedBy ways (clockedVoiceBy ways v0)) (ap (λ (z : Tone). z .accumulator) m)) q r _ _ _
     (sync-parts k0 t0 g0 l0 e0 _ u0 f) (sync-parts k1 t1 g1 l1 e1 _ u1 g) (sync-parts k2 t2 g2 l2 e2 _ u2 h)
 
 -- the loop's end
-pub ran : (c : Mos6581) {a : Mos6581} {i n : ℕ} → i ≤ n → n ≤ i → a ≡ ticks i c → a ≡ ticks n c
-ran c {a} {i} {n} h k p = ended (λ j. ticks j c) a i n h k p
+pub ran : (ways : Ways) (c : Mos6581) {a : Mos6581} {i n : ℕ} → i ≤ n → n ≤ i → a ≡ ticksBy ways i c → a ≡ ticksBy ways n c
+ran ways c {a} {i} {n} h k p = ended (λ j. ticksBy ways j c) a i n h k p

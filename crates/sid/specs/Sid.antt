@@ -10,8 +10,9 @@ use Rattle.bus.specs.Bus.{fresh as Bus·fresh, driven, clocked as Bus·clocked}
 use Rattle.bus.specs.declared.InternalDataBus.{InternalDataBus}
 use Rattle.envelope.specs.Envelope.{fresh as Envelope·fresh, reset as Envelope·reset, clocked as Envelope·clocked, attackDecaySet, sustainReleaseSet, gateSet}
 use Rattle.envelope.specs.declared.Envelope.{Envelope}
+use Rattle.oscillator.specs.Ways.{Ways, afresh}
 use Rattle.oscillator.specs.declared.Oscillator.{Oscillator}
-use Rattle.oscillator.specs.Oscillator.{fresh as Oscillator·fresh, clocked as Oscillator·clocked, voiced as Oscillator·voiced, written as Oscillator·written, writtenFrequencyLo, writtenFrequencyHi, writtenPulseWidthLo, writtenPulseWidthHi, readOutput, synchronised as Oscillator·synchronised}
+use Rattle.oscillator.specs.Oscillator.{fresh as Oscillator·fresh, clockedBy as Oscillator·clockedBy, voicedBy as Oscillator·voicedBy, written as Oscillator·written, writtenFrequencyLo, writtenFrequencyHi, writtenPulseWidthLo, writtenPulseWidthHi, readOutput, synchronised as Oscillator·synchronised}
 use Rattle.sid.specs.declared.Voice.{Voice}
 use Rattle.sid.specs.declared.Mos6581.{Mos6581}
 use Rattle.sid.specs.declared.Read.{Read}
@@ -114,22 +115,22 @@ withPotY c value = record { «voice_0» = c .«voice_0»; «voice_1» = c .«voi
 
 -- ---- 'Tick order: bus; three phases; three envelopes; …' (tick)
 
-unfoldable pub clockedVoice : Voice → Voice
-clockedVoice v = record { oscillator = Oscillator·clocked (v .oscillator); envelope = Envelope·clocked (v .envelope) }
+unfoldable pub clockedVoiceBy : Ways → Voice → Voice
+clockedVoiceBy w v = record { oscillator = Oscillator·clockedBy w (v .oscillator); envelope = Envelope·clocked (v .envelope) }
 
-unfoldable pub clocked : Mos6581 → Mos6581
-clocked c = record {
-  «voice_0» = clockedVoice (c .«voice_0»);
-  «voice_1» = clockedVoice (c .«voice_1»);
-  «voice_2» = clockedVoice (c .«voice_2»);
+unfoldable pub clockedBy : Ways → Mos6581 → Mos6581
+clockedBy w c = record {
+  «voice_0» = clockedVoiceBy w (c .«voice_0»);
+  «voice_1» = clockedVoiceBy w (c .«voice_1»);
+  «voice_2» = clockedVoiceBy w (c .«voice_2»);
   «data_bus» = Bus·clocked (c .«data_bus»);
   «pot_x» = c .«pot_x»;
   «pot_y» = c .«pot_y»;
 }
 
 -- '… then per voice evaluate, feedback, latch', with the phase of the voice before it in the ring
-unfoldable pub voiced : Voice → ℕ → Voice
-voiced v modulator = record { oscillator = Oscillator·voiced (v .oscillator) modulator; envelope = v .envelope }
+unfoldable pub voicedBy : Ways → Voice → ℕ → Voice
+voicedBy w v modulator = record { oscillator = Oscillator·voicedBy w (v .oscillator) modulator; envelope = v .envelope }
 
 abbrev pub phaseOf : Voice → ℕ
 phaseOf v = v .oscillator .tone .accumulator
@@ -138,15 +139,15 @@ abbrev pub withVoices : Mos6581 → Voice → Voice → Voice → Mos6581
 withVoices c v w x = record { «voice_0» = v; «voice_1» = w; «voice_2» = x; «data_bus» = c .«data_bus»; «pot_x» = c .«pot_x»; «pot_y» = c .«pot_y» }
 
 -- 'voice 0 seeing voice 2's phase before that voice's feedback'
-unfoldable pub voiced0 : Mos6581 → Mos6581
-voiced0 c = withVoices c (voiced (c .«voice_0») (phaseOf (c .«voice_2»))) (c .«voice_1») (c .«voice_2»)
+unfoldable pub voiced0By : Ways → Mos6581 → Mos6581
+voiced0By w c = withVoices c (voicedBy w (c .«voice_0») (phaseOf (c .«voice_2»))) (c .«voice_1») (c .«voice_2»)
 
 -- 'and voices 1 and 2 the phase before them after it'
-unfoldable pub voiced1 : Mos6581 → Mos6581
-voiced1 c = withVoices c (c .«voice_0») (voiced (c .«voice_1») (phaseOf (c .«voice_0»))) (c .«voice_2»)
+unfoldable pub voiced1By : Ways → Mos6581 → Mos6581
+voiced1By w c = withVoices c (c .«voice_0») (voicedBy w (c .«voice_1») (phaseOf (c .«voice_0»))) (c .«voice_2»)
 
-unfoldable pub voiced2 : Mos6581 → Mos6581
-voiced2 c = withVoices c (c .«voice_0») (c .«voice_1») (voiced (c .«voice_2») (phaseOf (c .«voice_1»)))
+unfoldable pub voiced2By : Ways → Mos6581 → Mos6581
+voiced2By w c = withVoices c (c .«voice_0») (c .«voice_1») (voicedBy w (c .«voice_2») (phaseOf (c .«voice_1»)))
 
 -- 'then synchronisation, judged from marks read beforehand': a source whose mark is set takes along a voice with sync
 -- enabled, unless the source, with sync enabled too, sees its own source's mark
@@ -170,12 +171,38 @@ unfoldable pub synchronised : Mos6581 → Mos6581
 synchronised c =
     withVoices c (synced (c .«voice_0») (c .«voice_2») (c .«voice_1»)) (synced (c .«voice_1») (c .«voice_0») (c .«voice_2»)) (synced (c .«voice_2») (c .«voice_1») (c .«voice_0»))
 
-unfoldable pub ticked : Mos6581 → Mos6581
-ticked c = synchronised (voiced2 (voiced1 (voiced0 (clocked c))))
+unfoldable pub tickedBy : Ways → Mos6581 → Mos6581
+tickedBy w c = synchronised (voiced2By w (voiced1By w (voiced0By w (clockedBy w c))))
 
 -- n clocks
+abbrev pub ticksBy : Ways → ℕ → Mos6581 → Mos6581
+ticksBy w n c = times n (tickedBy w) c
+
+-- ---- the same by document 01's ways
+
+abbrev pub clockedVoice : Voice → Voice
+clockedVoice = clockedVoiceBy afresh
+
+abbrev pub clocked : Mos6581 → Mos6581
+clocked = clockedBy afresh
+
+abbrev pub voiced : Voice → ℕ → Voice
+voiced = voicedBy afresh
+
+abbrev pub voiced0 : Mos6581 → Mos6581
+voiced0 = voiced0By afresh
+
+abbrev pub voiced1 : Mos6581 → Mos6581
+voiced1 = voiced1By afresh
+
+abbrev pub voiced2 : Mos6581 → Mos6581
+voiced2 = voiced2By afresh
+
+abbrev pub ticked : Mos6581 → Mos6581
+ticked = tickedBy afresh
+
 abbrev pub ticks : ℕ → Mos6581 → Mos6581
-ticks n c = times n ticked c
+ticks = ticksBy afresh
 
 -- ---- 'The calls that name a voice give its code (the last latched; fresh or reset 0), its level, or whether it is held at zero.'
 

@@ -2,6 +2,8 @@
 -- The parts that the loop holds are, packed, the chip after i ticks. Its body is `tick`'s, with the same names for
 -- its places. Assumes nothing.
 use Rattle.sid.proofs.Ticks.{same-generator, same-lines}
+use Rattle.oscillator.specs.Ways.{afresh}
+use Rattle.oscillator.proofs.Due.{afresh-still}
 use Rattle.sid.proofs.Turn.{fades, empty, parts, whole, turn, round, ran}
 use Rattle.laws.proofs.After.{taken, left}
 use Rattle.sid.specs.Sid.{ticked, ticks}
@@ -84,7 +86,7 @@ loop-again c =
     parts (start .«voice_2» .oscillator .control) (l .tone-2) (l .noise-2) (l .captured-2) (l .charge-2)
     (l .floating-2) (l .lines-2) (l .envelope-2) in
     let voice-0 =
-    turn from-0 _
+    turn afresh-still from-0 _
     (steps-0 .before .before .before .clocked .ensures) (steps-0 .before .before .rising .ensures)
     (steps-0 .before .step-due .ensures)
     (⊎-elim (λ w. taken (w .0 .taken) (same-generator (w .4) (w .5) (w .6) ∙ w .3 .ensures))
@@ -102,7 +104,7 @@ loop-again c =
     (⊎-elim (λ w. taken (w .0 .taken) (same-generator (w .4) (w .5) (w .6) ∙ w .3 .ensures))
     (λ w. left (w .0 .left) (same-generator (w .1) (w .2) (w .3))) (pulls-0 .if11 .came)) in
     let voice-1 =
-    turn from-1 _
+    turn afresh-still from-1 _
     (steps-1 .before .before .before .clocked2 .ensures) (steps-1 .before .before .rising2 .ensures)
     (steps-1 .before .step-due2 .ensures)
     (⊎-elim (λ w. taken (w .0 .taken) (same-generator (w .4) (w .5) (w .6) ∙ w .3 .ensures))
@@ -120,7 +122,7 @@ loop-again c =
     (⊎-elim (λ w. taken (w .0 .taken) (same-generator (w .4) (w .5) (w .6) ∙ w .3 .ensures))
     (λ w. left (w .0 .left) (same-generator (w .1) (w .2) (w .3))) (pulls-1 .if15 .came)) in
     let voice-2 =
-    turn from-2 _
+    turn afresh-still from-2 _
     (steps-2 .before .before .before .clocked3 .ensures) (steps-2 .before .before .rising3 .ensures)
     (steps-2 .before .step-due3 .ensures)
     (⊎-elim (λ w. taken (w .0 .taken) (same-generator (w .4) (w .5) (w .6) ∙ w .3 .ensures))
@@ -140,7 +142,7 @@ loop-again c =
       omega (arith, bus .before .before .loop-test .taken),
       l .inv .1,
       rw add-one (
-          round from-0 from-1 from-2
+          round afresh from-0 from-1 from-2
           (⊎-elim (λ w. fades (w .2 ∙ w .1 .ensures)) (λ w. empty (w .0 .left) (w .1)) (bus .if1 .came))
           voice-0 voice-1 voice-2 (steps-2 .before .before .before .clocked3 .ensures)
           (c .synced3 .ensures) (c .before .before .synced .ensures) (c .before .synced2 .ensures)
@@ -148,7 +150,7 @@ loop-again c =
     )
 
 returns : tie.Need-returns Inv-loop μ-loop
-returns c = ran _ (c .before .loop .inv .0) (c .loop-test .left) (c .before .loop .inv .2)
+returns c = ran afresh _ (c .before .loop .inv .0) (c .loop-test .left) (c .before .loop .inv .2)
 
 pub run-spec : {M : Type 1} → statement M
 run-spec =

@@ -2,19 +2,19 @@
 use borrow.Author.Needs.{needs}
 use mathlib.Core.Path.{ap, _∙_, sym}
 use lib.Bits.{and-mask}
-use Rattle.oscillator.specs.Oscillator.{code}
+use Rattle.oscillator.specs.Oscillator.{codeBy}
 use Rattle.oscillator.specs.declared.WaveformSelect.{WaveformSelect}
 use Rattle.oscillator.proofs.Control.code.Statement.{statement}
 use Rattle.oscillator.proofs.Control.code.Tie as tie
 
 returns : tie.Need-returns
-unfolding code
+unfolding codeBy
 returns c =
     let s = ap (λ (x : WaveformSelect). x .raw) (c .before .before .selected .ensures) in
     and-mask (c .before .before .before .args .floats) 12 ∙ simp (sym s, sym (c .before .is-off .ensures) ∙ c .if1 .taken)
 
 returns-2 : tie.Need-returns-2
-unfolding code
+unfolding codeBy
 returns-2 c =
     let s = ap (λ (x : WaveformSelect). x .raw) (c .before .before .before .selected .ensures) in
     c .waveform-at-phase .ensures ∙ simp (sym s, sym (c .before .before .is-off .ensures) ∙ c .before .if1 .left)
