@@ -1,5 +1,4 @@
 -- The lines of document 01's worked score, and a refusal's, are these bytes. Assumes nothing.
-use Prim.Native.Nat.{ℕ}
 use mathlib.Core.List.{[], _∷_}
 use mathlib.Core.Path.{_≡_, refl}
 use Rattle.refusals.specs.Refusals.{refused, told}

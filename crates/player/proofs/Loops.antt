@@ -6,7 +6,7 @@ use mathlib.Core.Bool.{true}
 use mathlib.Core.List.{List, [], _++_, append-nil, append-assoc}
 use mathlib.Core.Path.{_≡_, refl, ap, ap₂, sym, subst, _∙_}
 use lib.ListN.{length, take, drop, length-append}
-use lib.Seq.{sets, sets-eq, take-at, length-sets}
+use lib.Seq.{sets-eq, take-at, length-sets}
 use borrow.Author.Tests.{lt-ltb, le-ltb, le-leb}
 use Rattle.listing.specs.Text.{Put, copied, textRoom}
 use Rattle.listing.proofs.Joins.{then}

@@ -11,7 +11,7 @@ use Rattle.player.proofs.Loops.{lines-over, lines-none, nothing-after, take-put
 use Rattle.player.proofs.Played.{enough-steps}
 use Rattle.player.specs.declared.Player.{Player}
 use Rattle.player.specs.Listing.{listing}
-use Rattle.player.specs.Steps.{startOf, isNothing, lines, after, mostSteps, Made}
+use Rattle.player.specs.Steps.{startOf, isNothing, lines, after, mostSteps}
 use Rattle.printer.specs.declared.Filled.{Filled}
 use Rattle.printer.specs.Fills.{Fills, Filling, none, more}
 

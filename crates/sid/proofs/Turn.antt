@@ -1,7 +1,7 @@
 -- One tick of a voice, and of the chip, by any ways that are `Still`, follows from what code over their parts knows of
 -- it: what each call ensures, and by which way each branch came. Assumes nothing.
 use mathlib.Core.Path.{_≡_, refl, ap, sym, _∙_}
-use mathlib.Core.Bool.{Bool, true, false, cond}
+use mathlib.Core.Bool.{Bool, cond}
 use mathlib.Core.List.{List}
 use Prim.Native.Nat.{ℕ, _≤_}
 use Rattle.laws.proofs.After.{After, taken, left, after-due}
