@@ -9,7 +9,7 @@ use Rattle.envelope.specs.Envelope.{periodOf, divisorFor, down, fresh, rateInFo
 use Rattle.envelope.specs.Sets.{setHoldLevel, setFallRate}
 use Rattle.envelope.specs.declared.Envelope.{Envelope}
 use Rattle.envelope.proofs.Periods.{period-range, period-zero}
-use Rattle.noise.specs.Noise.{shownTo, fresh as Noise·fresh}
+use Rattle.noise.specs.Noise.{shown, fresh as Noise·fresh}
 use Rattle.waveforms.specs.Waveforms.{triangle}
 use Rattle.waveforms.proofs.Loading.{settled-zero, loaded-zero}
 use Rattle.release.specs.Release.{Settled, steps, inForce, divisorAfter, asked, matches, ZeroFrom}
@@ -103,7 +103,7 @@ unfolding sustainReleaseSet targetRefreshed
 reaching byte s e h = sustain-holds (sustainReleaseSet e byte) (still-rises e byte h) s
 
 pub edges : Edges
-unfolding kept holds matches steps wait lag fresh triangle Noise·fresh shownTo
+unfolding kept holds matches steps wait lag fresh triangle Noise·fresh shown
 edges = record {
   bus-11 = byte-fades 0xff 11 (omega arith);
   bus-12 = byte-fades 0xff 12 (omega arith);

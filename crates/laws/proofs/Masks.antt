@@ -20,8 +20,8 @@ pub and-bit : (x k : ℕ) → eqb (bitAnd x (2 ^ (1 + k) - 2 ^ k)) 0 ≡ eqb (x 
 and-bit x k = ap (λ (y : ℕ). eqb y 0) (and-high x 1 k) ∙ scaled (x / 2 ^ k % 2) (2 ^ k) (pow-pos k)
 
 -- a bit, and a one, shifted left within a word
-pub bit-shl : (x k w : ℕ) → k < w → x % 2 * 2 ^ k % 2 ^ w ≡ x % 2 * 2 ^ k
-bit-shl x k w h = shl-exact {a = x % 2} 1 k w (omega arith) (omega arith)
+pub bit-shl : (k w : ℕ) → k < w → (x : ℕ) → x % 2 * 2 ^ k % 2 ^ w ≡ x % 2 * 2 ^ k
+bit-shl k w h x = shl-exact {a = x % 2} 1 k w (omega arith) (omega arith)
 
 pub one-shl : (k w : ℕ) → k < w → 1 * 2 ^ k % 2 ^ w ≡ 2 ^ k
-one-shl k w h = bit-shl 1 k w h ∙ one-mul (2 ^ k)
+one-shl k w h = bit-shl k w h 1 ∙ one-mul (2 ^ k)

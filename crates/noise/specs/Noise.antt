@@ -15,21 +15,30 @@ use Rattle.noise.specs.declared.Noise.{Noise}
 use Rattle.noise.specs.declared.NoiseGenerator.{NoiseGenerator}
 use Rattle.noise.specs.declared.Stages.{Stages}
 
--- 'taps 2, 4, 8, 11, 13, 17, 20, 22' (NOISE_OUTPUT_TAPS)
+-- the bits of either
+infixl 60 _or_
+abbrev pub _or_ : ℕ → ℕ → ℕ
+x or y = bitOr x y
+
+-- 'shown through taps 2, 4, 8, 11, 13, 17, 20, 22 on bits 11 down to 4' (project): a term a tap, its stage and its line
+unfoldable pub shown : ℕ → ℕ
+shown state =
+    state / 2 ^ 2 % 2 * 2 ^ 11
+    or state / 2 ^ 4 % 2 * 2 ^ 10
+    or state / 2 ^ 8 % 2 * 2 ^ 9
+    or state / 2 ^ 11 % 2 * 2 ^ 8
+    or state / 2 ^ 13 % 2 * 2 ^ 7
+    or state / 2 ^ 17 % 2 * 2 ^ 6
+    or state / 2 ^ 20 % 2 * 2 ^ 5
+    or state / 2 ^ 22 % 2 * 2 ^ 4
+
+-- the taps for what goes line by line (NOISE_OUTPUT_TAPS): the stage of line 11 - n, which the n-th term above shows,
+-- n from 0 (`shown-tap` in proofs/Taps)
 abbrev pub taps : List ℕ
 taps = 2 ∷ 4 ∷ 8 ∷ 11 ∷ 13 ∷ 17 ∷ 20 ∷ 22 ∷ []
 
--- the stage that shows on line 11 - n
 abbrev pub tap : ℕ → ℕ
 tap n = getD taps n 0
-
--- 'shown through taps … on bits 11 down to 4' (project): the first n taps, then all eight
-unfoldable pub shownTo : ℕ → ℕ → ℕ
-shownTo state zero = 0
-shownTo state (suc n) = bitOr (shownTo state n) (state / 2 ^ tap n % 2 * 2 ^ (11 - n))
-
-abbrev pub shown : ℕ → ℕ
-shown state = shownTo state 8
 
 -- 'Noise holds 23 stages, fresh 0x3fffff' (new)
 unfoldable pub fresh : NoiseGenerator

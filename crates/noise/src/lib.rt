@@ -41,6 +41,7 @@ const NOISE_MASK: u32 = 0x007f_ffff;
 
 const NOISE_RESET_VALUE: u32 = 0x003f_ffff;
 
+// For what goes line by line; `project` has the taps one by one.
 const NOISE_OUTPUT_TAPS: [u8; 8] = [2, 4, 8, 11, 13, 17, 20, 22];
 
 const NOISE_TEST_LEAK_INTERVAL_CYCLES: u64 = 65_536;
@@ -75,15 +76,19 @@ fn has_come(at: u64, cycle: u64) -> bool
     at <= cycle
 }
 
+// A term a tap: its stage and its line.
 fn project(state: u32) -> u16
     ensures { λ r. ⌜ r ≡ shown state ⌝ }
 {
-    let mut out: u16 = 0;
-    for i in 0..8usize {
-        let stage = tap(i);
-        out |= (((state >> stage) % 2) as u16) << (11 - i);
-    }
-    out
+    let lines = ((state >> 2) % 2) << 11
+        | ((state >> 4) % 2) << 10
+        | ((state >> 8) % 2) << 9
+        | ((state >> 11) % 2) << 8
+        | ((state >> 13) % 2) << 7
+        | ((state >> 17) % 2) << 6
+        | ((state >> 20) % 2) << 5
+        | ((state >> 22) % 2) << 4;
+    lines as u16
 }
 
 // The loop of `new`.
