@@ -1,4 +1,4 @@
--- Line 11 - n shows the stage of tap n; every tap is one of the 23 stages. Assumes nothing.
+-- Line 11 - n shows the stage of tap n; no line above 11 is high; every tap is one of the 23 stages. Assumes nothing.
 use mathlib.Core.List.{List, [], _∷_}
 use mathlib.Core.Path.{_≡_, ap, sym, _∙_}
 use Prim.Native.Nat.{ℕ, zero, suc, _+_, _-_, _*_, _/_, _%_, _^_, _<_}
@@ -30,6 +30,7 @@ module _ (state : ℕ) where
   bits a [] = a
   bits a (t ∷ ts) = bits (a * 2 + state / 2 ^ t % 2) ts
 
+  -- above those of the stages stand the bits a
   above : (ts : List ℕ) (a : ℕ) → bits a ts / 2 ^ length ts ≡ a
   above [] a = omega arith
   above (t ∷ ts) a =
@@ -39,6 +40,7 @@ module _ (state : ℕ) where
       ∙ ap (λ (x : ℕ). x / 2) (above ts b)
       ∙ omega arith
 
+  -- the n-th of them, with k below it, is bit k
   bit-of : (ts : List ℕ) (n k a : ℕ) → n + suc k ≡ length ts → bits a ts / 2 ^ k % 2 ≡ state / 2 ^ getD ts n 0 % 2
   bit-of [] n k a e = absurd (omega arith)
   bit-of (t ∷ ts) zero k a e =
