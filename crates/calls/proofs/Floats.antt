@@ -16,50 +16,48 @@ use Rattle.floating.proofs.Fade.{sampled-empty, lines-whole, lines-gone}
 use Rattle.oscillator.specs.Oscillator.{writtenControl, writtenBus, resetPhase, written as Oscillator·written, synchronised as Oscillator·synchronised, tickedBy as Oscillator·tickedBy}
 use Rattle.oscillator.specs.declared.Control.{Control}
 use Rattle.oscillator.specs.declared.Oscillator.{Oscillator}
-use Rattle.oscillator.proofs.Floats.{tick-control, tick-cycle, tick-lines, tick-floats, write-captures}
+use Rattle.oscillator.proofs.Floats.{tick-control, tick-lines, tick-floats, write-captures}
 use Rattle.oscillator.specs.Ways.{afresh}
-use Rattle.sid.specs.Sid.{fresh, register, writtenOscillator, writtenVoice, writtenTo, written, readAt, clockedVoice, clockedVoiceBy, voiced, voicedBy, synchronisedIf, ticked, codeOf, Call, write, read, tick, clear, potX, potY, called, after, clocksOf}
+use Rattle.sid.specs.Sid.{fresh, register, writtenOscillator, writtenVoice, writtenTo, written, readAt, clockedVoice, clockedVoiceBy, nextCycle, voiced, voicedBy, synchronisedIf, ticked, codeOf, Call, write, read, tick, clear, potX, potY, called, after, clocksOf}
 use Rattle.sid.specs.declared.Voice.{Voice}
 use Rattle.sid.specs.declared.Mos6581.{Mos6581}
-use Rattle.calls.specs.Calls.{Which, voice-0, voice-1, voice-2, number, of, controlOf, waveformOf, cycleOf, Each, none, next, leavesOff, Latched, Captures, Floats}
-use Rattle.calls.proofs.Voices.{Face, tick-voice, read-voice, pot-x-voice, pot-y-voice, write-voice, write-oscillator, write-face}
+use Rattle.calls.specs.Calls.{Which, voice-0, voice-1, voice-2, number, of, controlOf, waveformOf, Each, none, next, leavesOff, Latched, Captures, Floats}
+use Rattle.calls.proofs.Voices.{Face, tick-voice, tick-cycle, read-voice, read-cycle, pot-x-voice, pot-y-voice, write-voice, write-cycle, write-oscillator, write-face}
 use Rattle.calls.proofs.Latched.{latched-after, latched-fresh, read-osc3}
 
--- a voice with waveform 0 selected at a cycle, that gives what its lines show
-record Drifts (v : Voice) (b : FloatingBus) (cycle : ℕ) : Type 0 where
+-- a voice with waveform 0 selected, that gives what its lines show
+record Drifts (v : Voice) (b : FloatingBus) : Type 0 where
   off : waveformOf v ≡ 0
   lines : v .oscillator .bus ≡ b
-  now : cycleOf v ≡ cycle
   code : codeOf v ≡ b .numbers .value % 4096
 
 -- ---- a tick samples the lines
 
 voice-drifts
-    : (v : Voice) (modulator : ℕ) (b : FloatingBus) (cycle : ℕ)
-    → Drifts v b cycle
-    → Drifts (voiced (clockedVoice v) modulator) (sampled b (Cycle·after cycle 1)) (Cycle·after cycle 1)
+    : (v : Voice) (modulator cycle : ℕ) (b : FloatingBus)
+    → Drifts v b
+    → Drifts (voiced (clockedVoice v cycle) modulator cycle) (sampled b cycle)
 unfolding voicedBy clockedVoiceBy Oscillator·tickedBy
-voice-drifts v modulator b cycle d =
+voice-drifts v modulator cycle b d =
     let o = v .oscillator in
     let none : o .control .waveform % 16 ≡ 0 = ap (λ (x : ℕ). x % 16) (d .off) in
-    let at = ap₂ (λ (x : FloatingBus) (n : ℕ). sampled x (Cycle·after n 1)) (d .lines) (d .now) in
+    let at = ap (λ (x : FloatingBus). sampled x cycle) (d .lines) in
     record {
-      off = ap (λ (k : Control). k .waveform) (tick-control afresh o modulator) ∙ d .off;
-      lines = tick-lines afresh o modulator none ∙ at;
-      now = tick-cycle afresh o modulator ∙ ap (λ (n : ℕ). Cycle·after n 1) (d .now);
-      code = tick-floats afresh o modulator none ∙ ap (λ (x : FloatingBus). x .numbers .value % 4096) at;
+      off = ap (λ (k : Control). k .waveform) (tick-control afresh o modulator cycle) ∙ d .off;
+      lines = tick-lines afresh o modulator cycle none ∙ at;
+      code = tick-floats afresh o modulator cycle none ∙ ap (λ (x : FloatingBus). x .numbers .value % 4096) at;
     }
 
-sync-drifts : (taken : Bool) (v : Voice) (b : FloatingBus) (cycle : ℕ) → Drifts v b cycle → Drifts (synchronisedIf taken v) b cycle
+sync-drifts : (taken : Bool) (v : Voice) (b : FloatingBus) → Drifts v b → Drifts (synchronisedIf taken v) b
 unfolding synchronisedIf Oscillator·synchronised resetPhase
-sync-drifts true v b cycle d = record { off = d .off; lines = d .lines; now = d .now; code = d .code }
-sync-drifts false v b cycle d = d
+sync-drifts true v b d = record { off = d .off; lines = d .lines; code = d .code }
+sync-drifts false v b d = d
 
-tick-drifts : (w : Which) (c : Mos6581) (b : FloatingBus) (cycle : ℕ) → Drifts (of w c) b cycle → Drifts (of w (ticked c)) (sampled b (Cycle·after cycle 1)) (Cycle·after cycle 1)
-tick-drifts w c b cycle d =
+tick-drifts : (w : Which) (c : Mos6581) (b : FloatingBus) → Drifts (of w c) b → Drifts (of w (ticked c)) (sampled b (nextCycle c))
+tick-drifts w c b d =
     let t = tick-voice afresh w c in
-    subst (λ (u : Voice). Drifts u (sampled b (Cycle·after cycle 1)) (Cycle·after cycle 1)) (sym (t .same))
-    (sync-drifts (t .taken) (voiced (clockedVoice (of w c)) (t .modulator)) _ _ (voice-drifts (of w c) (t .modulator) b cycle d))
+    subst (λ (u : Voice). Drifts u (sampled b (nextCycle c))) (sym (t .same))
+    (sync-drifts (t .taken) _ _ (voice-drifts (of w c) (t .modulator) (nextCycle c) b d))
 
 -- ---- a write that selects no waveform leaves selection and lines
 
@@ -68,13 +66,13 @@ record Stays (v : Voice) (o : Oscillator) : Type 0 where
   off : o .control .waveform ≡ waveformOf v
   lines : o .bus ≡ v .oscillator .bus
 
-control-stays : (v : Voice) (value : ℕ) → waveformOf v ≡ 0 → value / 2 ^ 4 ≡ 0 → Stays v (Oscillator·written (v .oscillator) value)
+control-stays : (v : Voice) (value cycle : ℕ) → waveformOf v ≡ 0 → value / 2 ^ 4 ≡ 0 → Stays v (Oscillator·written (v .oscillator) value cycle)
 unfolding Oscillator·written writtenControl writtenBus
-control-stays v value z e = record { off = e ∙ sym z; lines = simp (z, e) }
+control-stays v value cycle z e = record { off = e ∙ sym z; lines = simp (z, e) }
 
-register-stays : (v : Voice) (r value : ℕ) → waveformOf v ≡ 0 → (r ≡ 4 → value / 2 ^ 4 ≡ 0) → Stays v (writtenVoice v r value .oscillator)
-register-stays v r value z h =
-    write-oscillator (Stays v) v r value (λ _ _. record { off = refl; lines = refl }) (λ e. control-stays v value z (h (eqb-true r 4 e)))
+register-stays : (v : Voice) (r value cycle : ℕ) → waveformOf v ≡ 0 → (r ≡ 4 → value / 2 ^ 4 ≡ 0) → Stays v (writtenVoice v r value cycle .oscillator)
+register-stays v r value cycle z h =
+    write-oscillator (Stays v) v r value cycle (λ _ _. record { off = refl; lines = refl }) (λ e. control-stays v value cycle z (h (eqb-true r 4 e)))
     (record { off = refl; lines = refl })
 
 -- the control register of voice n is 7 n + 4
@@ -92,7 +90,7 @@ unfolding writtenTo
 write-stays w c address value h z =
     subst (λ (u : Voice). Stays (of w c) (u .oscillator)) (sym (write-voice w c address value))
     (by-test (λ (u : Voice). Stays (of w c) (u .oscillator)) (eqb (register address / 7) (number w)) _ _
-    (λ e. register-stays (of w c) (register address % 7) value z (λ q. none (eqb-true (register address / 7) (number w) e) q))
+    (λ e. register-stays (of w c) (register address % 7) value (c .cycle) z (λ q. none (eqb-true (register address / 7) (number w) e) q))
     (λ _. record { off = refl; lines = refl }))
   where
     none : register address / 7 ≡ number w → register address % 7 ≡ 4 → value / 2 ^ 4 ≡ 0
@@ -102,18 +100,16 @@ write-stays w c address value h z =
         (eq-eqb (register address) (controlOf w) (omega (arith, control-at w, p, q))))
 
 write-drifts
-    : (w : Which) (c : Mos6581) (address value : ℕ) (b : FloatingBus) (cycle : ℕ)
+    : (w : Which) (c : Mos6581) (address value : ℕ) (b : FloatingBus)
     → (not (eqb (register address) (controlOf w)) || eqb (value / 2 ^ 4) 0) ≡ true
-    → Drifts (of w c) b cycle
-    → Drifts (of w (written c address value)) b cycle
-write-drifts w c address value b cycle h d =
+    → Drifts (of w c) b
+    → Drifts (of w (written c address value)) b
+write-drifts w c address value b h d =
     let s = write-stays w c address value h (d .off) in
-    let f = write-face w c address value in
     record {
       off = s .off ∙ d .off;
       lines = s .lines ∙ d .lines;
-      now = ap (λ (x : Face). x .cycle) f ∙ d .now;
-      code = ap (λ (x : Face). x .code) f ∙ d .code;
+      code = ap (λ (x : Face). x .code) (write-face w c address value) ∙ d .code;
     }
 
 -- ---- any calls that leave it so sample the lines once a tick
@@ -126,27 +122,30 @@ samples-first (suc n) b cycle = ap₂ sampled (samples-first n b cycle) (omega a
 code-drifts
     : (w : Which) (calls : List Call) (c : Mos6581) (b : FloatingBus) (cycle : ℕ)
     → Each (leavesOff w) calls
-    → Drifts (of w c) b cycle
+    → c .cycle ≡ cycle
+    → Drifts (of w c) b
     → codeOf (of w (after calls c)) ≡ samples (clocksOf calls) b cycle .numbers .value % 4096
 unfolding after called clocksOf leavesOff samples
-code-drifts w [] c b cycle none d = d .code
-code-drifts w (write address value ∷ calls) c b cycle (next h r) d = code-drifts w calls _ b cycle r (write-drifts w c address value b cycle h d)
-code-drifts w (read address ∷ calls) c b cycle (next h r) d =
-    code-drifts w calls _ b cycle r (subst (λ (u : Voice). Drifts u b cycle) (sym (read-voice w c address)) d)
-code-drifts w (tick ∷ calls) c b cycle (next h r) d =
-    code-drifts w calls _ _ _ r (tick-drifts w c b cycle d)
+code-drifts w [] c b cycle none e d = d .code
+code-drifts w (write address value ∷ calls) c b cycle (next h r) e d =
+    code-drifts w calls _ b cycle r (write-cycle c address value ∙ e) (write-drifts w c address value b h d)
+code-drifts w (read address ∷ calls) c b cycle (next h r) e d =
+    code-drifts w calls _ b cycle r (read-cycle c address ∙ e) (subst (λ (u : Voice). Drifts u b) (sym (read-voice w c address)) d)
+code-drifts w (tick ∷ calls) c b cycle (next h r) e d =
+    code-drifts w calls _ _ _ r (tick-cycle afresh c) (tick-drifts w c b d)
+    ∙ ap (λ (n : ℕ). samples (clocksOf calls) (sampled b (Cycle·after n 1)) (Cycle·after n 1) .numbers .value % 4096) e
     ∙ ap (λ (x : FloatingBus). x .numbers .value % 4096) (sym (samples-first (clocksOf calls) b cycle))
-code-drifts w (clear ∷ calls) c b cycle (next h r) d = absurd (false≢true h)
-code-drifts w (potX value ∷ calls) c b cycle (next h r) d =
-    code-drifts w calls _ b cycle r (subst (λ (u : Voice). Drifts u b cycle) (sym (pot-x-voice w c value)) d)
-code-drifts w (potY value ∷ calls) c b cycle (next h r) d =
-    code-drifts w calls _ b cycle r (subst (λ (u : Voice). Drifts u b cycle) (sym (pot-y-voice w c value)) d)
+code-drifts w (clear ∷ calls) c b cycle (next h r) e d = absurd (false≢true h)
+code-drifts w (potX value ∷ calls) c b cycle (next h r) e d =
+    code-drifts w calls _ b cycle r e (subst (λ (u : Voice). Drifts u b) (sym (pot-x-voice w c value)) d)
+code-drifts w (potY value ∷ calls) c b cycle (next h r) e d =
+    code-drifts w calls _ b cycle r e (subst (λ (u : Voice). Drifts u b) (sym (pot-y-voice w c value)) d)
 
 -- ---- the capture
 
-write-control : (n : ℕ) (v : Voice) (r value : ℕ) → r ≡ 7 * n + 4 → writtenTo n v r value .oscillator ≡ Oscillator·written (v .oscillator) value
+write-control : (n : ℕ) (v : Voice) (r value cycle : ℕ) → r ≡ 7 * n + 4 → writtenTo n v r value cycle .oscillator ≡ Oscillator·written (v .oscillator) value cycle
 unfolding writtenTo writtenVoice writtenOscillator
-write-control n v r value e =
+write-control n v r value cycle e =
     let p : r / 7 ≡ n = omega arith in
     let q : r % 7 ≡ 4 = omega arith in
     simp (eq-eqb (r / 7) n p, q)
@@ -155,19 +154,17 @@ starts
     : (w : Which) (c : Mos6581) (address value : ℕ)
     → Latched (of w c)
     → Captures w c address value
-    → Drifts (of w (written c address value)) (captured (codeOf (of w c)) (cycleOf (of w c))) (cycleOf (of w c))
+    → Drifts (of w (written c address value)) (captured (codeOf (of w c)) (c .cycle))
 unfolding Oscillator·written writtenControl captured
 starts w c address value l h =
     let o = of w c .oscillator in
-    let f = write-face w c address value in
-    let e : of w (written c address value) .oscillator ≡ Oscillator·written o value =
+    let e : of w (written c address value) .oscillator ≡ Oscillator·written o value (c .cycle) =
     ap (λ (v : Voice). v .oscillator) (write-voice w c address value)
-    ∙ write-control (number w) (of w c) (register address) value (h .control ∙ control-at w) in
+    ∙ write-control (number w) (of w c) (register address) value (c .cycle) (h .control ∙ control-at w) in
     record {
       off = ap (λ (x : Oscillator). x .control .waveform) e ∙ h .off;
-      lines = ap (λ (x : Oscillator). x .bus) e ∙ write-captures o value (h .off) (h .another);
-      now = ap (λ (x : Face). x .cycle) f;
-      code = ap (λ (x : Face). x .code) f ∙ omega (arith, l .twelve);
+      lines = ap (λ (x : Oscillator). x .bus) e ∙ write-captures o value (c .cycle) (h .off) (h .another);
+      code = ap (λ (x : Face). x .code) (write-face w c address value) ∙ omega (arith, l .twelve);
     }
 
 samples-empty : (n : ℕ) (b : FloatingBus) (cycle : ℕ) → b .numbers .value ≡ 0 → samples n b cycle .numbers .value ≡ 0
@@ -210,11 +207,12 @@ pub chip-floats
     → Captures w c address value
     → Floats w (written c address value) (codeOf (of w c))
 chip-floats w c address value l h =
-    let v = of w c in
+    let code = codeOf (of w c) in
+    let now = write-cycle c address value in
     let d = starts w c address value l h in
     record {
-      whole = λ calls r n. code-drifts w calls _ _ _ r d ∙ captured-whole (codeOf v) (cycleOf v) (l .twelve) (h .early) (clocksOf calls) n;
-      gone = λ calls r n. code-drifts w calls _ _ _ r d ∙ captured-gone (codeOf v) (cycleOf v) (l .twelve) (h .early) (clocksOf calls) n;
+      whole = λ calls r n. code-drifts w calls _ _ _ r now d ∙ captured-whole code (c .cycle) (l .twelve) (h .early) (clocksOf calls) n;
+      gone = λ calls r n. code-drifts w calls _ _ _ r now d ∙ captured-gone code (c .cycle) (l .twelve) (h .early) (clocksOf calls) n;
     }
 
 -- of every chip that calls make of a fresh one

@@ -10,7 +10,7 @@ use Rattle.envelope.specs.declared.Envelope.{Envelope}
 use Rattle.envelope.proofs.Readback.{clock-reads}
 use Rattle.oscillator.specs.Oscillator.{fresh as Oscillator·fresh, latchedTone, latchedCode, resetPhase, synchronised as Oscillator·synchronised, voicedBy as Oscillator·voicedBy}
 use Rattle.oscillator.specs.Ways.{afresh}
-use Rattle.sid.specs.Sid.{register, fresh, resetVoice, readDriven, readAt, writtenVoice, clockedVoice, voiced, voicedBy, synchronisedIf, ticked, codeOf, levelOf, Call, write, read, tick, clear, potX, potY, called, after}
+use Rattle.sid.specs.Sid.{register, fresh, resetVoice, readDriven, readAt, writtenVoice, clockedVoice, nextCycle, voiced, voicedBy, synchronisedIf, ticked, codeOf, levelOf, Call, write, read, tick, clear, potX, potY, called, after}
 use Rattle.sid.proofs.Joined.{after-join}
 use Rattle.sid.specs.declared.Voice.{Voice}
 use Rattle.sid.specs.declared.Mos6581.{Mos6581}
@@ -78,15 +78,15 @@ code-while-fresh w calls r = idle-keeps w calls fresh r .0 ∙ ap codeOf (fresh-
 
 -- ---- 'OSC3 is the top eight bits of voice 2's code'
 
-pub voice-latched : (v : Voice) (modulator : ℕ) (taken : Bool) → Latched (synchronisedIf taken (voiced (clockedVoice v) modulator))
+pub voice-latched : (v : Voice) (modulator cycle : ℕ) (taken : Bool) → Latched (synchronisedIf taken (voiced (clockedVoice v cycle) modulator cycle))
 unfolding synchronisedIf voicedBy Oscillator·synchronised resetPhase Oscillator·voicedBy latchedCode latchedTone
-voice-latched v modulator true = record { shown = refl; twelve = omega arith }
-voice-latched v modulator false = record { shown = refl; twelve = omega arith }
+voice-latched v modulator cycle true = record { shown = refl; twelve = omega arith }
+voice-latched v modulator cycle false = record { shown = refl; twelve = omega arith }
 
 pub tick-latched : (w : Which) (c : Mos6581) → Latched (of w (ticked c))
 tick-latched w c =
     let t = tick-voice afresh w c in
-    subst Latched (sym (t .same)) (voice-latched (of w c) (t .modulator) (t .taken))
+    subst Latched (sym (t .same)) (voice-latched (of w c) (t .modulator) (nextCycle c) (t .taken))
 
 pub fresh-latched : (accumulator : ℕ) (e : Envelope) → Latched (record { oscillator = Oscillator·fresh accumulator; envelope = e })
 unfolding Oscillator·fresh
@@ -102,8 +102,8 @@ face-latched u v e h = record {
 pub call-latched : (w : Which) (call : Call) (c : Mos6581) → Latched (of w c) → Latched (of w (called call c))
 unfolding resetVoice
 call-latched =
-    call-keeps Latched (λ v modulator taken _. voice-latched v modulator taken) (λ v _. fresh-latched _ _)
-    (λ v r value h. face-latched (writtenVoice v r value) v (register-face v r value) h)
+    call-keeps Latched (λ v modulator cycle taken _. voice-latched v modulator cycle taken) (λ v _. fresh-latched _ _)
+    (λ v r value cycle h. face-latched (writtenVoice v r value cycle) v (register-face v r value cycle) h)
 
 pub latched-after : (w : Which) (calls : List Call) (c : Mos6581) → Latched (of w c) → Latched (of w (after calls c))
 latched-after w = calls-keep (λ c. Latched (of w c)) (call-latched w)

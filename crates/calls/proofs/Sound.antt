@@ -33,9 +33,9 @@ gate-zero : (e : Envelope) (high : Bool) → Zero e → Zero (gateSet e high)
 unfolding gateSet targetRefreshed
 gate-zero e high h = either (λ (t : Bool). t ≡ true → e .volume ≡ 0) (high && not (e .gate .input)) _ _ (λ t. absurd (false≢true t)) h
 
-write-zero : (v : Voice) (r value : ℕ) → Zero (v .envelope) → Zero (writtenVoice v r value .envelope)
+write-zero : (v : Voice) (r value cycle : ℕ) → Zero (v .envelope) → Zero (writtenVoice v r value cycle .envelope)
 unfolding writtenVoice writtenEnvelope attackDecaySet sustainReleaseSet targetRefreshed
-write-zero v r value h =
+write-zero v r value cycle h =
     either Zero (eqb r 4) _ _ (gate-zero (v .envelope) _ h) (either Zero (eqb r 5) _ _ h (either Zero (eqb r 6) _ _ h h))
 
 reset-zero : (e : Envelope) → Zero (Envelope·reset e)
@@ -58,26 +58,26 @@ tested-shows g old new last cycle h =
     (either Shows (new .«test_enabled») _ _ (entered-shows g cycle h) h)
 
 tick-shows
-    : (v : Voice) (modulator : ℕ) (taken : Bool)
+    : (v : Voice) (modulator cycle : ℕ) (taken : Bool)
     → Shows (v .oscillator .noise)
-    → Shows (synchronisedIf taken (voiced (clockedVoice v) modulator) .oscillator .noise)
+    → Shows (synchronisedIf taken (voiced (clockedVoice v cycle) modulator cycle) .oscillator .noise)
 unfolding synchronisedIf Oscillator·synchronised voicedBy clockedVoiceBy Oscillator·voicedBy latchedCode fedBack evaluatedBy Oscillator·clockedBy
-tick-shows v modulator true h = latched-shows _ (v .oscillator .control) _ _ (stepped-shows (v .oscillator .noise) _ _ _ h)
-tick-shows v modulator false h = latched-shows _ (v .oscillator .control) _ _ (stepped-shows (v .oscillator .noise) _ _ _ h)
+tick-shows v modulator cycle true h = latched-shows _ (v .oscillator .control) _ _ (stepped-shows (v .oscillator .noise) _ _ _ h)
+tick-shows v modulator cycle false h = latched-shows _ (v .oscillator .control) _ _ (stepped-shows (v .oscillator .noise) _ _ _ h)
 
-write-shows : (v : Voice) (r value : ℕ) → Shows (v .oscillator .noise) → Shows (writtenVoice v r value .oscillator .noise)
+write-shows : (v : Voice) (r value cycle : ℕ) → Shows (v .oscillator .noise) → Shows (writtenVoice v r value cycle .oscillator .noise)
 unfolding Oscillator·written
-write-shows v r value h = write-oscillator (λ o. Shows (o .noise)) v r value (λ _ _. h) (λ _. tested-shows (v .oscillator .noise) _ _ _ _ h) h
+write-shows v r value cycle h = write-oscillator (λ o. Shows (o .noise)) v r value cycle (λ _ _. h) (λ _. tested-shows (v .oscillator .noise) _ _ _ _ h) h
 
 -- ---- the phase has 24 bits
 
 abbrev Fits : ℕ → Type 0
 Fits n = n < 2 ^ 24
 
-tick-fits : (v : Voice) (modulator : ℕ) (taken : Bool) → Fits (phaseOf (synchronisedIf taken (voiced (clockedVoice v) modulator)))
+tick-fits : (v : Voice) (modulator cycle : ℕ) (taken : Bool) → Fits (phaseOf (synchronisedIf taken (voiced (clockedVoice v cycle) modulator cycle)))
 unfolding synchronisedIf Oscillator·synchronised resetPhase voicedBy clockedVoiceBy Oscillator·voicedBy latchedCode latchedTone fedBack fedBackTone evaluatedBy comparedTone Oscillator·clockedBy clockedTone
-tick-fits v modulator true = omega arith
-tick-fits v modulator false =
+tick-fits v modulator cycle true = omega arith
+tick-fits v modulator cycle false =
     either Fits (feedsBack (v .oscillator .control) _) _ _ (omega arith) (either Fits (v .oscillator .control .«test_enabled») _ _ (omega arith) (omega arith))
 
 tested-fits : (t : Tone) (old new : Bool) → Fits (t .accumulator) → Fits (testedTone t old new .accumulator)
@@ -86,9 +86,9 @@ tested-fits t true new h = h
 tested-fits t false true h = omega arith
 tested-fits t false false h = h
 
-write-fits : (v : Voice) (r value : ℕ) → Fits (phaseOf v) → Fits (phaseOf (writtenVoice v r value))
+write-fits : (v : Voice) (r value cycle : ℕ) → Fits (phaseOf v) → Fits (phaseOf (writtenVoice v r value cycle))
 unfolding Oscillator·written
-write-fits v r value h = write-oscillator (λ o. Fits (o .tone .accumulator)) v r value (λ _ _. h) (λ _. tested-fits (v .oscillator .tone) _ _ h) h
+write-fits v r value cycle h = write-oscillator (λ o. Fits (o .tone .accumulator)) v r value cycle (λ _ _. h) (λ _. tested-fits (v .oscillator .tone) _ _ h) h
 
 -- ---- all of it
 
@@ -96,18 +96,18 @@ pub call-sound : (w : Which) (call : Call) (c : Mos6581) → Sound (of w c) → 
 unfolding resetVoice Oscillator·fresh
 call-sound =
     call-keeps Sound
-    (λ v modulator taken h. record {
-      held-is-zero = subst Zero (sym (sync-envelope afresh taken v modulator)) (held-is-zero (v .envelope) (h .held-is-zero));
-      noise-shows = tick-shows v modulator taken (h .noise-shows);
-      phase-fits = tick-fits v modulator taken;
-      latched = voice-latched v modulator taken;
+    (λ v modulator cycle taken h. record {
+      held-is-zero = subst Zero (sym (sync-envelope afresh taken v modulator cycle)) (held-is-zero (v .envelope) (h .held-is-zero));
+      noise-shows = tick-shows v modulator cycle taken (h .noise-shows);
+      phase-fits = tick-fits v modulator cycle taken;
+      latched = voice-latched v modulator cycle taken;
     })
     (λ v h. record { held-is-zero = reset-zero (v .envelope); noise-shows = fresh-shows; phase-fits = h .phase-fits; latched = fresh-latched _ _ })
-    (λ v r value h. record {
-      held-is-zero = write-zero v r value (h .held-is-zero);
-      noise-shows = write-shows v r value (h .noise-shows);
-      phase-fits = write-fits v r value (h .phase-fits);
-      latched = face-latched (writtenVoice v r value) v (register-face v r value) (h .latched);
+    (λ v r value cycle h. record {
+      held-is-zero = write-zero v r value cycle (h .held-is-zero);
+      noise-shows = write-shows v r value cycle (h .noise-shows);
+      phase-fits = write-fits v r value cycle (h .phase-fits);
+      latched = face-latched (writtenVoice v r value cycle) v (register-face v r value cycle) (h .latched);
     })
 
 pub sound-after : (w : Which) (calls : List Call) (c : Mos6581) → Sound (of w c) → Sound (of w (after calls c))

@@ -15,7 +15,7 @@ use Rattle.envelope.specs.declared.Envelope.{Envelope}
 use Rattle.oscillator.specs.Oscillator.{writtenControl, tuned, resetPhase, testedTone, written as Oscillator·written}
 use Rattle.oscillator.specs.declared.Oscillator.{Oscillator}
 use Rattle.oscillator.specs.Ways.{Ways, afresh}
-use Rattle.sid.specs.Sid.{freshVoice, fresh, register, withBus, resetVoice, reset, writtenOscillator, writtenEnvelope, writtenVoice, writtenTo, written, readDriven, readAt, withPotX, withPotY, clockedVoice, clockedVoiceBy, clockedBy, voiced, voicedBy, voiced0By, voiced1By, voiced2By, synchronisedIf, synchronised, tickedBy, Call, write, read, tick, clear, potX, potY, called, after}
+use Rattle.sid.specs.Sid.{freshVoice, fresh, register, withBus, resetVoice, reset, writtenOscillator, writtenEnvelope, writtenVoice, writtenTo, written, readDriven, readAt, withPotX, withPotY, clockedVoice, clockedVoiceBy, nextCycle, clockedBy, voiced, voicedBy, voiced0By, voiced1By, voiced2By, synchronisedIf, synchronised, tickedBy, Call, write, read, tick, clear, potX, potY, called, after}
 use Rattle.sid.specs.declared.Voice.{Voice}
 use Rattle.sid.specs.declared.Mos6581.{Mos6581}
 use Rattle.sid.specs.declared.Read.{Read}
@@ -23,33 +23,39 @@ use Rattle.calls.specs.Calls.{Which, voice-0, voice-1, voice-2, number, 
 
 -- ---- a tick, by any ways
 
--- seen from one voice: its clock, its part with the phase of the voice before it, and the synchronisation, taken or not
-pub record Ticks (ways : Ways) (v u : Voice) : Type 0 where
+-- seen from one voice: its clock, its part with the phase of the voice before it, both at the new cycle, and the
+-- synchronisation, taken or not
+pub record Ticks (ways : Ways) (cycle : ℕ) (v u : Voice) : Type 0 where
   pub modulator : ℕ
   pub taken : Bool
-  pub same : u ≡ synchronisedIf taken (voicedBy ways (clockedVoiceBy ways v) modulator)
+  pub same : u ≡ synchronisedIf taken (voicedBy ways (clockedVoiceBy ways v cycle) modulator cycle)
 
-pub tick-voice : (ways : Ways) (w : Which) (c : Mos6581) → Ticks ways (of w c) (of w (tickedBy ways c))
+pub tick-voice : (ways : Ways) (w : Which) (c : Mos6581) → Ticks ways (nextCycle c) (of w c) (of w (tickedBy ways c))
 unfolding tickedBy synchronised voiced0By voiced1By voiced2By clockedBy
 tick-voice ways voice-0 c = record { modulator = _; taken = _; same = refl }
 tick-voice ways voice-1 c = record { modulator = _; taken = _; same = refl }
 tick-voice ways voice-2 c = record { modulator = _; taken = _; same = refl }
 
 pub sync-envelope
-    : (ways : Ways) (taken : Bool) (v : Voice) (modulator : ℕ)
-    → synchronisedIf taken (voicedBy ways (clockedVoiceBy ways v) modulator) .envelope ≡ Envelope·clocked (v .envelope)
+    : (ways : Ways) (taken : Bool) (v : Voice) (modulator cycle : ℕ)
+    → synchronisedIf taken (voicedBy ways (clockedVoiceBy ways v cycle) modulator cycle) .envelope ≡ Envelope·clocked (v .envelope)
 unfolding synchronisedIf voicedBy clockedVoiceBy
-sync-envelope ways true v modulator = refl
-sync-envelope ways false v modulator = refl
+sync-envelope ways true v modulator cycle = refl
+sync-envelope ways false v modulator cycle = refl
 
 pub tick-envelope : (ways : Ways) (w : Which) (c : Mos6581) → of w (tickedBy ways c) .envelope ≡ Envelope·clocked (of w c .envelope)
 tick-envelope ways w c =
     let t = tick-voice ways w c in
-    ap (λ (v : Voice). v .envelope) (t .same) ∙ sync-envelope ways (t .taken) (of w c) (t .modulator)
+    ap (λ (v : Voice). v .envelope) (t .same) ∙ sync-envelope ways (t .taken) (of w c) (t .modulator) (nextCycle c)
 
 pub tick-bus : (ways : Ways) (c : Mos6581) → tickedBy ways c .«data_bus» ≡ Bus·clocked (c .«data_bus»)
 unfolding tickedBy synchronised voiced0By voiced1By voiced2By clockedBy
 tick-bus ways c = refl
+
+-- its cycle is the one that all of it saw
+pub tick-cycle : (ways : Ways) (c : Mos6581) → tickedBy ways c .cycle ≡ nextCycle c
+unfolding tickedBy synchronised voiced0By voiced1By voiced2By clockedBy
+tick-cycle ways c = refl
 
 -- ---- reads, pots, resets, and a fresh chip
 
@@ -84,6 +90,14 @@ read-voice w c address = go (reads c address)
   where
     go : {b : Bool} {r : Read} → Reads c b r → of w (r .chip) ≡ of w c
     go (drives value) = bus-voice w c (driven value)
+    go floats = refl
+
+pub read-cycle : (c : Mos6581) (address : ℕ) → readAt c address .chip .cycle ≡ c .cycle
+unfolding readDriven
+read-cycle c address = go (reads c address)
+  where
+    go : {b : Bool} {r : Read} → Reads c b r → r .chip .cycle ≡ c .cycle
+    go (drives value) = refl
     go floats = refl
 
 pub read-floats : (c : Mos6581) (address : ℕ) → floating address ≡ true → readAt c address ≡ record { chip = c; byte = c .«data_bus» .value }
@@ -125,21 +139,25 @@ fresh-voice voice-2 = refl
 
 -- ---- writes
 
-pub write-voice : (w : Which) (c : Mos6581) (address value : ℕ) → of w (written c address value) ≡ writtenTo (number w) (of w c) (register address) value
+pub write-voice : (w : Which) (c : Mos6581) (address value : ℕ) → of w (written c address value) ≡ writtenTo (number w) (of w c) (register address) value (c .cycle)
 unfolding written
 write-voice voice-0 c address value = refl
 write-voice voice-1 c address value = refl
 write-voice voice-2 c address value = refl
 
+pub write-cycle : (c : Mos6581) (address value : ℕ) → written c address value .cycle ≡ c .cycle
+unfolding written
+write-cycle c address value = refl
+
 -- an oscillator is left as it is, or its frequency or pulse width is written, or its control register
 pub write-oscillator
-    : (P : Oscillator → Type 0) (v : Voice) (r value : ℕ)
+    : (P : Oscillator → Type 0) (v : Voice) (r value cycle : ℕ)
     → ((frequency width : ℕ) → P (tuned (v .oscillator) frequency width))
-    → (eqb r 4 ≡ true → P (Oscillator·written (v .oscillator) value))
+    → (eqb r 4 ≡ true → P (Oscillator·written (v .oscillator) value cycle))
     → P (v .oscillator)
-    → P (writtenVoice v r value .oscillator)
+    → P (writtenVoice v r value cycle .oscillator)
 unfolding writtenVoice writtenOscillator
-write-oscillator P v r value t k h =
+write-oscillator P v r value cycle t k h =
     either P (eqb r 0) _ _ (t _ _)
     (either P (eqb r 1) _ _ (t _ _) (either P (eqb r 2) _ _ (t _ _) (either P (eqb r 3) _ _ (t _ _) (by-test P (eqb r 4) _ _ k (λ _. h)))))
 
@@ -147,76 +165,75 @@ write-oscillator P v r value t k h =
 pub record Face : Type 0 where
   pub code : ℕ
   pub osc : ℕ
-  pub cycle : ℕ
   pub level : ℕ
   pub env : ℕ
 
 abbrev faceOf : Oscillator → Envelope → Face
-faceOf o e = record { code = o .tone .«last_sample»; osc = o .tone .readback; cycle = o .tone .cycle; level = e .volume; env = e .readback }
+faceOf o e = record { code = o .tone .«last_sample»; osc = o .tone .readback; level = e .volume; env = e .readback }
 
 abbrev pub face : Voice → Face
 face v = faceOf (v .oscillator) (v .envelope)
 
-control-face : (o : Oscillator) (value : ℕ) (e : Envelope) → faceOf (Oscillator·written o value) e ≡ faceOf o e
+control-face : (o : Oscillator) (value cycle : ℕ) (e : Envelope) → faceOf (Oscillator·written o value cycle) e ≡ faceOf o e
 unfolding Oscillator·written testedTone resetPhase
-control-face o value e = go (o .control .«test_enabled») (writtenControl (o .control) value .«test_enabled»)
+control-face o value cycle e = go (o .control .«test_enabled») (writtenControl (o .control) value .«test_enabled»)
   where
     go : (old new : Bool) → faceOf (record { control = o .control; tone = testedTone (o .tone) old new; noise = o .noise; bus = o .bus }) e ≡ faceOf o e
     go true new = refl
     go false true = refl
     go false false = refl
 
-oscillator-face : (v : Voice) (r value : ℕ) (e : Envelope) → faceOf (writtenVoice v r value .oscillator) e ≡ faceOf (v .oscillator) e
-oscillator-face v r value e =
-    write-oscillator (λ o. faceOf o e ≡ faceOf (v .oscillator) e) v r value (λ _ _. refl) (λ _. control-face (v .oscillator) value e) refl
+oscillator-face : (v : Voice) (r value cycle : ℕ) (e : Envelope) → faceOf (writtenVoice v r value cycle .oscillator) e ≡ faceOf (v .oscillator) e
+oscillator-face v r value cycle e =
+    write-oscillator (λ o. faceOf o e ≡ faceOf (v .oscillator) e) v r value cycle (λ _ _. refl) (λ _. control-face (v .oscillator) value cycle e) refl
 
-envelope-face : (v : Voice) (r value : ℕ) (o : Oscillator) → faceOf o (writtenVoice v r value .envelope) ≡ faceOf o (v .envelope)
+envelope-face : (v : Voice) (r value cycle : ℕ) (o : Oscillator) → faceOf o (writtenVoice v r value cycle .envelope) ≡ faceOf o (v .envelope)
 unfolding writtenVoice writtenEnvelope gateSet attackDecaySet sustainReleaseSet targetRefreshed
-envelope-face v r value o =
+envelope-face v r value cycle o =
     let P : Envelope → Type 0 = λ x. faceOf o x ≡ faceOf o (v .envelope) in
     either P (eqb r 4) _ _ refl (either P (eqb r 5) _ _ refl (either P (eqb r 6) _ _ refl refl))
 
-pub register-face : (v : Voice) (r value : ℕ) → face (writtenVoice v r value) ≡ face v
-register-face v r value = oscillator-face v r value (writtenVoice v r value .envelope) ∙ envelope-face v r value (v .oscillator)
+pub register-face : (v : Voice) (r value cycle : ℕ) → face (writtenVoice v r value cycle) ≡ face v
+register-face v r value cycle = oscillator-face v r value cycle (writtenVoice v r value cycle .envelope) ∙ envelope-face v r value cycle (v .oscillator)
 
 pub write-face : (w : Which) (c : Mos6581) (address value : ℕ) → face (of w (written c address value)) ≡ face (of w c)
 unfolding writtenTo
 write-face w c address value =
     ap face (write-voice w c address value)
-    ∙ either (λ (x : Voice). face x ≡ face (of w c)) (eqb (register address / 7) (number w)) _ _ (register-face (of w c) (register address % 7) value) refl
+    ∙ either (λ (x : Voice). face x ≡ face (of w c)) (eqb (register address / 7) (number w)) _ _ (register-face (of w c) (register address % 7) value (c .cycle)) refl
 
 -- a write to another voice, or to this one's frequency or pulse width, leaves its envelope
-low-envelope : (v : Voice) (r value : ℕ) → r < 4 → writtenVoice v r value .envelope ≡ v .envelope
+low-envelope : (v : Voice) (r value cycle : ℕ) → r < 4 → writtenVoice v r value cycle .envelope ≡ v .envelope
 unfolding writtenVoice writtenEnvelope
-low-envelope v r value h = simp (ne-eqb r 4 (λ e. omega arith), ne-eqb r 5 (λ e. omega arith), ne-eqb r 6 (λ e. omega arith))
+low-envelope v r value cycle h = simp (ne-eqb r 4 (λ e. omega arith), ne-eqb r 5 (λ e. omega arith), ne-eqb r 6 (λ e. omega arith))
 
-other-envelope : (n : ℕ) (v : Voice) (r value : ℕ) → (not (eqb (r / 7) n) || ltb (r % 7) 4) ≡ true → writtenTo n v r value .envelope ≡ v .envelope
+other-envelope : (n : ℕ) (v : Voice) (r value cycle : ℕ) → (not (eqb (r / 7) n) || ltb (r % 7) 4) ≡ true → writtenTo n v r value cycle .envelope ≡ v .envelope
 unfolding writtenTo
-other-envelope n v r value h =
+other-envelope n v r value cycle h =
     by-test (λ (x : Voice). x .envelope ≡ v .envelope) (eqb (r / 7) n) _ _
-    (λ e. low-envelope v (r % 7) value (ltb-true (r % 7) 4 (implies (eqb (r / 7) n) _ h e))) (λ _. refl)
+    (λ e. low-envelope v (r % 7) value cycle (ltb-true (r % 7) 4 (implies (eqb (r / 7) n) _ h e))) (λ _. refl)
 
 pub write-envelope
     : (w : Which) (c : Mos6581) (address value : ℕ)
     → (not (eqb (register address / 7) (number w)) || ltb (register address % 7) 4) ≡ true
     → of w (written c address value) .envelope ≡ of w c .envelope
 write-envelope w c address value h =
-    ap (λ (v : Voice). v .envelope) (write-voice w c address value) ∙ other-envelope (number w) (of w c) (register address) value h
+    ap (λ (v : Voice). v .envelope) (write-voice w c address value) ∙ other-envelope (number w) (of w c) (register address) value (c .cycle) h
 
 -- ---- any call, and any calls
 
 -- a claim of a voice that a tick, a reset and a write to its registers keep is kept by every call
 module _
     (P : Voice → Type 0)
-    (by-tick : (v : Voice) (modulator : ℕ) (taken : Bool) → P v → P (synchronisedIf taken (voiced (clockedVoice v) modulator)))
+    (by-tick : (v : Voice) (modulator cycle : ℕ) (taken : Bool) → P v → P (synchronisedIf taken (voiced (clockedVoice v cycle) modulator cycle)))
     (by-reset : (v : Voice) → P v → P (resetVoice v))
-    (by-write : (v : Voice) (r value : ℕ) → P v → P (writtenVoice v r value)) where
+    (by-write : (v : Voice) (r value cycle : ℕ) → P v → P (writtenVoice v r value cycle)) where
   pub call-keeps : (w : Which) (call : Call) (c : Mos6581) → P (of w c) → P (of w (called call c))
   unfolding called writtenTo
   call-keeps w (write address value) c h =
-      subst P (sym (write-voice w c address value)) (either P (eqb (register address / 7) (number w)) _ _ (by-write (of w c) (register address % 7) value h) h)
+      subst P (sym (write-voice w c address value)) (either P (eqb (register address / 7) (number w)) _ _ (by-write (of w c) (register address % 7) value (c .cycle) h) h)
   call-keeps w (read address) c h = subst P (sym (read-voice w c address)) h
-  call-keeps w tick c h = let t = tick-voice afresh w c in subst P (sym (t .same)) (by-tick (of w c) (t .modulator) (t .taken) h)
+  call-keeps w tick c h = let t = tick-voice afresh w c in subst P (sym (t .same)) (by-tick (of w c) (t .modulator) (nextCycle c) (t .taken) h)
   call-keeps w clear c h = subst P (sym (reset-voice w c)) (by-reset (of w c) h)
   call-keeps w (potX value) c h = subst P (sym (pot-x-voice w c value)) h
   call-keeps w (potY value) c h = subst P (sym (pot-y-voice w c value)) h

@@ -6,14 +6,13 @@
 -- Floats: the floating code (`chip-floats`, `chip-floats-fresh`, `read-osc3-floats`).
 -- Latched: the code, OSC3 and ENV3 (`code-after-tick`, `read-osc3-after-tick`, `read-env3-after-tick`).
 -- Sound: facts that every call keeps (`call-sound`, `sound-fresh`).
--- Kept: cycles (`cycles-agree`), and what a reset keeps (`reset-keeps`).
+-- Kept: the cycle counts ticks (`cycle-counts`), and what a reset keeps (`reset-keeps`).
 -- Runs: `run` among calls (`run-leads`, `run-calls`), and after it an envelope, the byte and a floating code.
 use Prim.Native.Nat.{ℕ, suc, _+_, _-_, _/_, _%_, _^_, _<_, _≤_}
 use mathlib.Core.Path.{_≡_}
 use mathlib.Core.Bool.{Bool, true, false, not, _&&_, _||_}
 use mathlib.Core.List.{List, [], _∷_, _++_}
 use lib.Dec.{eqb, ltb}
-use Rattle.laws.specs.Cycle.{after as Cycle·after}
 use Rattle.noise.specs.Noise.{shown as Noise·shown}
 use Rattle.bus.specs.Bus.{holds, kept}
 use Rattle.release.specs.Release.{steps, landing, Needs}
@@ -45,9 +44,6 @@ controlOf voice-2 = 0x12
 
 abbrev pub waveformOf : Voice → ℕ
 waveformOf v = v .oscillator .control .waveform
-
-abbrev pub cycleOf : Voice → ℕ
-cycleOf v = v .oscillator .tone .cycle
 
 -- ---- which calls a law allows
 
@@ -162,7 +158,7 @@ pub record Captures (w : Which) (c : Mos6581) (address value : ℕ) : Type 0 whe
   pub control : register address ≡ controlOf w
   pub off : value / 2 ^ 4 ≡ 0
   pub another : waveformOf (of w c) ≡ 0 → ⊥
-  pub early : cycleOf (of w c) < 2 ^ 63
+  pub early : c .cycle < 2 ^ 63
 
 -- The floating code of a voice of a chip, for any calls that leave it so: only the ticks among them count
 pub record Floats (w : Which) (c : Mos6581) (code : ℕ) : Type 0 where
@@ -171,16 +167,12 @@ pub record Floats (w : Which) (c : Mos6581) (code : ℕ) : Type 0 where
   -- 'and zero from clock 1,260,020'
   pub gone : (calls : List Call) → Each (leavesOff w) calls → 1260020 ≤ clocksOf calls → codeOf (of w (after calls c)) ≡ 0
 
--- the cycle after calls: a tick moves it on by one, a reset makes it 0
-unfoldable pub cycleAfter : List Call → ℕ → ℕ
-cycleAfter [] cycle = cycle
-cycleAfter (write address value ∷ calls) cycle = cycleAfter calls cycle
-cycleAfter (read address ∷ calls) cycle = cycleAfter calls cycle
-cycleAfter (tick ∷ calls) cycle = cycleAfter calls (Cycle·after cycle 1)
-cycleAfter (clear ∷ calls) cycle = cycleAfter calls 0
-cycleAfter (potX value ∷ calls) cycle = cycleAfter calls cycle
-cycleAfter (potY value ∷ calls) cycle = cycleAfter calls cycle
-
--- the three cycles agree
-abbrev pub Agree : Mos6581 → Type 0
-Agree c = (v w : Which) → cycleOf (of v c) ≡ cycleOf (of w c)
+-- the ticks since the chip was made or last reset, n of them before these calls
+unfoldable pub clocksSince : List Call → ℕ → ℕ
+clocksSince [] n = n
+clocksSince (write address value ∷ calls) n = clocksSince calls n
+clocksSince (read address ∷ calls) n = clocksSince calls n
+clocksSince (tick ∷ calls) n = clocksSince calls (suc n)
+clocksSince (clear ∷ calls) n = clocksSince calls 0
+clocksSince (potX value ∷ calls) n = clocksSince calls n
+clocksSince (potY value ∷ calls) n = clocksSince calls n

@@ -4,14 +4,13 @@
 use borrow.Author.Tests.{eq-eqb, ne-eqb}
 use native.Mathlib.Omega.{arith}
 use Prim.Native.Nat.{ℕ, zero, suc, _/_, _%_, _^_, _<_, _≤_}
-use mathlib.Core.Bool.{Bool, true, false}
-use mathlib.Core.Path.{_≡_, refl, ap, ap₂, _∙_}
+use mathlib.Core.Path.{_≡_, refl, ap, _∙_}
 use Rattle.laws.specs.Cycle.{after}
 use Rattle.floating.proofs.Fade.{lines-whole, lines-gone}
 use Rattle.floating.specs.Floating.{captured, sampled, samples}
 use Rattle.floating.specs.declared.FloatingBus.{FloatingBus}
 use Rattle.oscillator.specs.Ways.{Ways, afresh}
-use Rattle.oscillator.specs.Oscillator.{clockedTone, clockedBy, comparedTone, codeBy, sampledBusBy, evaluatedBy, fedBackTone, fedBack, latchedTone, latchedCode, writtenControl, writtenBus, resetPhase, testedTone, written, voicedBy, tickedBy, ticks, ticksBy}
+use Rattle.oscillator.specs.Oscillator.{clockedBy, codeBy, sampledBusBy, evaluatedBy, fedBack, latchedTone, latchedCode, writtenControl, writtenBus, written, voicedBy, tickedBy, ticks, ticksBy}
 use Rattle.oscillator.specs.declared.Control.{Control}
 use Rattle.oscillator.specs.declared.Oscillator.{Oscillator}
 
@@ -20,86 +19,68 @@ pub small : (x : ℕ) → x % 4096 % 4096 ≡ x % 4096
 small x = omega arith
 
 -- one tick of a voice, by any ways
-module _ (w : Ways) (o : Oscillator) (m : ℕ) where
-  pub tick-control : tickedBy w o m .control ≡ o .control
+module _ (w : Ways) (o : Oscillator) (m cycle : ℕ) where
+  pub tick-control : tickedBy w o m cycle .control ≡ o .control
   unfolding tickedBy voicedBy latchedCode fedBack evaluatedBy clockedBy
   tick-control = refl
 
-  pub tick-cycle : tickedBy w o m .tone .cycle ≡ after (o .tone .cycle) 1
-  unfolding tickedBy voicedBy latchedCode fedBack evaluatedBy clockedBy latchedTone fedBackTone comparedTone clockedTone
-  tick-cycle = refl
-
   -- with nothing selected the lines are sampled, and the code is what they show
   module _ (off : o .control .waveform % 16 ≡ 0) where
-    pub tick-lines : tickedBy w o m .bus ≡ w .leak (o .bus) (after (o .tone .cycle) 1)
-    unfolding tickedBy voicedBy latchedCode fedBack evaluatedBy clockedBy clockedTone sampledBusBy
+    pub tick-lines : tickedBy w o m cycle .bus ≡ w .leak (o .bus) cycle
+    unfolding tickedBy voicedBy latchedCode fedBack evaluatedBy clockedBy sampledBusBy
     tick-lines = simp (eq-eqb (o .control .waveform % 16) 0 off)
 
-    pub tick-floats : tickedBy w o m .tone .«last_sample» ≡ w .leak (o .bus) (after (o .tone .cycle) 1) .numbers .value % 4096
-    unfolding tickedBy voicedBy latchedCode fedBack evaluatedBy clockedBy clockedTone sampledBusBy codeBy latchedTone
+    pub tick-floats : tickedBy w o m cycle .tone .«last_sample» ≡ w .leak (o .bus) cycle .numbers .value % 4096
+    unfolding tickedBy voicedBy latchedCode fedBack evaluatedBy clockedBy sampledBusBy codeBy latchedTone
     tick-floats = simp (eq-eqb (o .control .waveform % 16) 0 off) (small _)
 
 -- n ticks with nothing selected
-module _ (ms : ℕ → ℕ) (o : Oscillator) (off : o .control .waveform % 16 ≡ 0) (fits : o .tone .cycle < 2 ^ 64) where
-  ticks-control : (n : ℕ) → ticks n o ms .control ≡ o .control
+module _ (ms : ℕ → ℕ) (o : Oscillator) (cycle : ℕ) (off : o .control .waveform % 16 ≡ 0) where
+  ticks-control : (n : ℕ) → ticks n o ms cycle .control ≡ o .control
   unfolding ticksBy
   ticks-control zero = refl
-  ticks-control (suc n) = tick-control afresh (ticks n o ms) (ms n) ∙ ticks-control n
+  ticks-control (suc n) = tick-control afresh (ticks n o ms cycle) (ms n) (after cycle (suc n)) ∙ ticks-control n
 
-  ticks-off : (n : ℕ) → ticks n o ms .control .waveform % 16 ≡ 0
+  ticks-off : (n : ℕ) → ticks n o ms cycle .control .waveform % 16 ≡ 0
   ticks-off n = ap (λ (k : Control). k .waveform % 16) (ticks-control n) ∙ off
 
-  ticks-cycle : (n : ℕ) → ticks n o ms .tone .cycle ≡ after (o .tone .cycle) n
-  unfolding ticksBy
-  ticks-cycle zero = omega arith
-  ticks-cycle (suc n) = tick-cycle afresh (ticks n o ms) (ms n) ∙ ap (λ (x : ℕ). after x 1) (ticks-cycle n) ∙ omega arith
-
-  next-cycle : (n : ℕ) → after (ticks n o ms .tone .cycle) 1 ≡ after (o .tone .cycle) (suc n)
-  next-cycle n = ap (λ (x : ℕ). after x 1) (ticks-cycle n) ∙ omega arith
-
-  ticks-lines : (n : ℕ) → ticks n o ms .bus ≡ samples n (o .bus) (o .tone .cycle)
+  ticks-lines : (n : ℕ) → ticks n o ms cycle .bus ≡ samples n (o .bus) cycle
   unfolding ticksBy samples
   ticks-lines zero = refl
-  ticks-lines (suc n) = tick-lines afresh (ticks n o ms) (ms n) (ticks-off n) ∙ ap₂ sampled (ticks-lines n) (next-cycle n)
+  ticks-lines (suc n) =
+      tick-lines afresh (ticks n o ms cycle) (ms n) (after cycle (suc n)) (ticks-off n)
+      ∙ ap (λ (f : FloatingBus). sampled f (after cycle (suc n))) (ticks-lines n)
 
-  ticks-floats : (n : ℕ) → ticks (suc n) o ms .tone .«last_sample» ≡ samples (suc n) (o .bus) (o .tone .cycle) .numbers .value % 4096
+  ticks-floats : (n : ℕ) → ticks (suc n) o ms cycle .tone .«last_sample» ≡ samples (suc n) (o .bus) cycle .numbers .value % 4096
   unfolding ticksBy samples
   ticks-floats n =
-      tick-floats afresh (ticks n o ms) (ms n) (ticks-off n) ∙ ap₂ (λ (f : FloatingBus) (k : ℕ). sampled f k .numbers .value % 4096) (ticks-lines n) (next-cycle n)
+      tick-floats afresh (ticks n o ms cycle) (ms n) (after cycle (suc n)) (ticks-off n)
+      ∙ ap (λ (f : FloatingBus). sampled f (after cycle (suc n)) .numbers .value % 4096) (ticks-lines n)
 
 -- a write of selection 0 over another leaves the last code on the lines, at the cycle of the write
 pub write-captures
-    : (o : Oscillator) (value : ℕ)
+    : (o : Oscillator) (value cycle : ℕ)
     → value / 2 ^ 4 ≡ 0
     → (o .control .waveform ≡ 0 → ⊥)
-    → written o value .bus ≡ captured (o .tone .«last_sample») (o .tone .cycle)
+    → written o value cycle .bus ≡ captured (o .tone .«last_sample») cycle
 unfolding written writtenControl writtenBus
-write-captures o value e d = simp (e, ne-eqb (o .control .waveform) 0 d)
-
-pub write-cycle : (o : Oscillator) (value : ℕ) → written o value .tone .cycle ≡ o .tone .cycle
-unfolding written testedTone resetPhase
-write-cycle o value = go (o .control .«test_enabled») (writtenControl (o .control) value .«test_enabled»)
-  where
-    go : (old new : Bool) → testedTone (o .tone) old new .cycle ≡ o .tone .cycle
-    go true new = refl
-    go false true = refl
-    go false false = refl
+write-captures o value cycle e d = simp (e, ne-eqb (o .control .waveform) 0 d)
 
 -- THE LAW: clock n + 1 after the write, whatever the modulator does
 module _
-    (ms : ℕ → ℕ) (o : Oscillator) (value : ℕ) (off : value / 2 ^ 4 ≡ 0) (another : o .control .waveform ≡ 0 → ⊥)
-    (some : o .tone .«last_sample» % 4096 ≡ 0 → ⊥) (early : o .tone .cycle < 2 ^ 63) where
-  selects : written o value .control .waveform % 16 ≡ 0
+    (ms : ℕ → ℕ) (o : Oscillator) (value cycle : ℕ) (off : value / 2 ^ 4 ≡ 0) (another : o .control .waveform ≡ 0 → ⊥)
+    (some : o .tone .«last_sample» % 4096 ≡ 0 → ⊥) (early : cycle < 2 ^ 63) where
+  selects : written o value cycle .control .waveform % 16 ≡ 0
   unfolding written writtenControl
   selects = omega (arith, off)
 
-  shows : (n : ℕ) → ticks (suc n) (written o value) ms .tone .«last_sample» ≡ samples (suc n) (captured (o .tone .«last_sample») (o .tone .cycle)) (o .tone .cycle) .numbers .value % 4096
+  shows : (n : ℕ) → ticks (suc n) (written o value cycle) ms cycle .tone .«last_sample» ≡ samples (suc n) (captured (o .tone .«last_sample») cycle) cycle .numbers .value % 4096
   shows n =
-      ticks-floats ms (written o value) selects (rw (write-cycle o value) (omega arith)) n
-      ∙ ap₂ (λ (f : FloatingBus) (k : ℕ). samples (suc n) f k .numbers .value % 4096) (write-captures o value off another) (write-cycle o value)
+      ticks-floats ms (written o value cycle) cycle selects n
+      ∙ ap (λ (f : FloatingBus). samples (suc n) f cycle .numbers .value % 4096) (write-captures o value cycle off another)
 
-  pub floats-whole : (n : ℕ) → suc n ≤ 1260019 → ticks (suc n) (written o value) ms .tone .«last_sample» ≡ o .tone .«last_sample» % 4096
-  floats-whole n h = shows n ∙ ap (λ (x : ℕ). x % 4096) (lines-whole (o .tone .«last_sample») (o .tone .cycle) some early (suc n) h) ∙ small (o .tone .«last_sample»)
+  pub floats-whole : (n : ℕ) → suc n ≤ 1260019 → ticks (suc n) (written o value cycle) ms cycle .tone .«last_sample» ≡ o .tone .«last_sample» % 4096
+  floats-whole n h = shows n ∙ ap (λ (x : ℕ). x % 4096) (lines-whole (o .tone .«last_sample») cycle some early (suc n) h) ∙ small (o .tone .«last_sample»)
 
-  pub floats-gone : (n : ℕ) → 1260020 ≤ suc n → ticks (suc n) (written o value) ms .tone .«last_sample» ≡ 0
-  floats-gone n h = shows n ∙ ap (λ (x : ℕ). x % 4096) (lines-gone (o .tone .«last_sample») (o .tone .cycle) some early (suc n) h)
+  pub floats-gone : (n : ℕ) → 1260020 ≤ suc n → ticks (suc n) (written o value cycle) ms cycle .tone .«last_sample» ≡ 0
+  floats-gone n h = shows n ∙ ap (λ (x : ℕ). x % 4096) (lines-gone (o .tone .«last_sample») cycle some early (suc n) h)

@@ -32,15 +32,15 @@ voice k t g b = record { control = k; tone = t; noise = g; bus = b }
 
 -- a tick: the phase and the noise clocked, the lines sampled, the code, and what it leaves
 pub tick-parts
-    : (w : Ways) (k : Control) (t : Tone) (g : NoiseGenerator) (b : FloatingBus) (modulator : ℕ)
+    : (w : Ways) (k : Control) (t : Tone) (g : NoiseGenerator) (b : FloatingBus) (modulator cycle : ℕ)
     (t1 : Tone) (g1 : NoiseGenerator) (b1 : FloatingBus) (output : ℕ)
     → t1 ≡ clockedTone t k
-    → g1 ≡ steppedBy (w .recover) g (k .«test_enabled») (rising (t .accumulator) (t1 .accumulator)) (t1 .cycle)
-    → b1 ≡ sampledBusBy w b k (t1 .cycle)
+    → g1 ≡ steppedBy (w .recover) g (k .«test_enabled») (rising (t .accumulator) (t1 .accumulator)) cycle
+    → b1 ≡ sampledBusBy w b k cycle
     → output ≡ codeBy w k t1 (g1 .numbers .visible) (b1 .numbers .value) modulator
-    → voice k (latchedTone (fedBackTone (comparedTone t1 k) k output) output) (latchedNoise g1 k output (t1 .cycle)) b1 ≡ tickedBy w (voice k t g b) modulator
+    → voice k (latchedTone (fedBackTone (comparedTone t1 k) k output) output) (latchedNoise g1 k output cycle) b1 ≡ tickedBy w (voice k t g b) modulator cycle
 unfolding tickedBy voicedBy latchedCode fedBack evaluatedBy clockedBy comparedTone fedBackTone
-tick-parts w k t g b modulator t1 g1 b1 output p q r s =
+tick-parts w k t g b modulator cycle t1 g1 b1 output p q r s =
     let t′ = clockedTone t k in
-    let g′ = steppedBy (w .recover) g (k .«test_enabled») (rising (t .accumulator) (t′ .accumulator)) (t′ .cycle) in
-    simp (s, r, q, p) (simp (code-small w k t′ (g′ .numbers .visible) (sampledBusBy w b k (t′ .cycle) .numbers .value) modulator))
+    let g′ = steppedBy (w .recover) g (k .«test_enabled») (rising (t .accumulator) (t′ .accumulator)) cycle in
+    simp (s, r, q, p) (simp (code-small w k t′ (g′ .numbers .visible) (sampledBusBy w b k cycle .numbers .value) modulator))

@@ -1,6 +1,7 @@
 -- The oscillator of one voice: document 01, 'Oscillator'; Oscillator of oscillator.rs. Its fields stand in two
 -- records of numbers, Control (what the registers say) and Tone (what a clock changes), beside the noise register and
--- the floating lines.
+-- the floating lines. The cycle is its chip's (document 02, request 8), and comes last: to a clock of the phase the one
+-- that this clock makes, to all else the present one.
 use Prim.Native.Nat.{ℕ, zero, suc, _+_, _-_, _*_, _/_, _%_, _^_}
 use mathlib.Core.Bool.{Bool, false, cond, not, _&&_, _||_}
 use lib.Bits.{bitAnd, bitOr, bitXor}
@@ -30,7 +31,7 @@ selected c = select (c .waveform)
 unfoldable pub fresh : ℕ → Oscillator
 fresh accumulator = record {
   control = record { frequency = 0; «pulse_width» = 0; waveform = 0; «sync_enabled» = false; «ring_enabled» = false; «test_enabled» = false };
-  tone = record { accumulator = accumulator; «msb_rising» = false; «last_sample» = 0; «pulse_output» = 0xfff; cycle = 0; readback = 0 };
+  tone = record { accumulator = accumulator; «msb_rising» = false; «last_sample» = 0; «pulse_output» = 0xfff; readback = 0 };
   noise = Noise·fresh;
   bus = Floating·fresh;
 }
@@ -46,17 +47,16 @@ clockedTone t c = record {
   «msb_rising» = cond (c .«test_enabled») false (not (eqb (rising (t .accumulator) ((t .accumulator + c .frequency) % 2 ^ 24) / 2 ^ 23 % 2) 0));
   «last_sample» = t .«last_sample»;
   «pulse_output» = t .«pulse_output»;
-  cycle = after (t .cycle) 1;
   readback = t .readback;
 }
 
--- one clock of the phase, and of the noise register with what rises (clock_accumulator)
-unfoldable pub clockedBy : Ways → Oscillator → Oscillator
-clockedBy w o = record {
+-- one clock of the phase, and of the noise register with what rises, at the cycle that it makes (clock_accumulator)
+unfoldable pub clockedBy : Ways → Oscillator → ℕ → Oscillator
+clockedBy w o cycle = record {
   control = o .control;
   tone = clockedTone (o .tone) (o .control);
   noise = steppedBy (w .recover) (o .noise) (o .control .«test_enabled»)
-      (rising (o .tone .accumulator) (clockedTone (o .tone) (o .control) .accumulator)) (clockedTone (o .tone) (o .control) .cycle);
+      (rising (o .tone .accumulator) (clockedTone (o .tone) (o .control) .accumulator)) cycle;
   bus = o .bus;
 }
 
@@ -85,7 +85,6 @@ comparedTone t c = record {
   «msb_rising» = t .«msb_rising»;
   «last_sample» = t .«last_sample»;
   «pulse_output» = cond (leb (c .«pulse_width») (phase t)) 0xfff 0;
-  cycle = t .cycle;
   readback = t .readback;
 }
 
@@ -118,14 +117,14 @@ unfoldable pub sampledBusBy : Ways → FloatingBus → Control → ℕ → Float
 sampledBusBy w b c cycle = cond (isOff (selected c)) (w .leak b cycle) b
 
 -- the code, from the comparison made before, and the voice with the lines and the comparison made now (evaluate_output)
-unfoldable pub evaluatedBy : Ways → Oscillator → ℕ → Evaluated
-evaluatedBy w o modulator = record {
-  code = codeBy w (o .control) (o .tone) (o .noise .numbers .visible) (sampledBusBy w (o .bus) (o .control) (o .tone .cycle) .numbers .value) modulator;
+unfoldable pub evaluatedBy : Ways → Oscillator → ℕ → ℕ → Evaluated
+evaluatedBy w o modulator cycle = record {
+  code = codeBy w (o .control) (o .tone) (o .noise .numbers .visible) (sampledBusBy w (o .bus) (o .control) cycle .numbers .value) modulator;
   oscillator = record {
     control = o .control;
     tone = comparedTone (o .tone) (o .control);
     noise = o .noise;
-    bus = sampledBusBy w (o .bus) (o .control) (o .tone .cycle);
+    bus = sampledBusBy w (o .bus) (o .control) cycle;
   };
 }
 
@@ -141,7 +140,6 @@ fedBackTone t c output = record {
   «msb_rising» = cond (feedsBack c output) false (t .«msb_rising»);
   «last_sample» = t .«last_sample»;
   «pulse_output» = t .«pulse_output»;
-  cycle = t .cycle;
   readback = t .readback;
 }
 
@@ -156,7 +154,6 @@ latchedTone t latched = record {
   «msb_rising» = t .«msb_rising»;
   «last_sample» = latched;
   «pulse_output» = t .«pulse_output»;
-  cycle = t .cycle;
   readback = latched;
 }
 
@@ -183,11 +180,11 @@ unfoldable pub latchedNoise : NoiseGenerator → Control → ℕ → ℕ → Noi
 latchedNoise g c latched cycle = pulledNoise (coupledNoise g c latched) c latched cycle
 
 -- the code is latched by its low twelve bits (latch_output)
-unfoldable pub latchedCode : Oscillator → ℕ → Oscillator
-latchedCode o output = record {
+unfoldable pub latchedCode : Oscillator → ℕ → ℕ → Oscillator
+latchedCode o output cycle = record {
   control = o .control;
   tone = latchedTone (o .tone) (output % 4096);
-  noise = latchedNoise (o .noise) (o .control) (output % 4096) (o .tone .cycle);
+  noise = latchedNoise (o .noise) (o .control) (output % 4096) cycle;
   bus = o .bus;
 }
 
@@ -234,7 +231,6 @@ resetPhase t = record {
   «msb_rising» = false;
   «last_sample» = t .«last_sample»;
   «pulse_output» = t .«pulse_output»;
-  cycle = t .cycle;
   readback = t .readback;
 }
 
@@ -243,12 +239,12 @@ unfoldable pub testedTone : Tone → Bool → Bool → Tone
 testedTone t old new = cond old t (cond new (resetPhase t) t)
 
 -- the whole write (write_control)
-unfoldable pub written : Oscillator → ℕ → Oscillator
-written o value = record {
+unfoldable pub written : Oscillator → ℕ → ℕ → Oscillator
+written o value cycle = record {
   control = writtenControl (o .control) value;
   tone = testedTone (o .tone) (o .control .«test_enabled») (writtenControl (o .control) value .«test_enabled»);
-  noise = testedNoise (o .noise) (o .control) (writtenControl (o .control) value) (o .tone .«last_sample») (o .tone .cycle);
-  bus = writtenBus (o .bus) (o .control .waveform) (writtenControl (o .control) value .waveform) (o .tone .«last_sample») (o .tone .cycle);
+  noise = testedNoise (o .noise) (o .control) (writtenControl (o .control) value) (o .tone .«last_sample») cycle;
+  bus = writtenBus (o .bus) (o .control .waveform) (writtenControl (o .control) value .waveform) (o .tone .«last_sample») cycle;
 }
 
 -- ---- the registers of frequency and pulse width (write_frequency_lo, write_frequency_hi, write_pulse_width_lo,
@@ -298,20 +294,22 @@ synchronised o = record { control = o .control; tone = resetPhase (o .tone); noi
 -- ---- 'Tick order', one voice's part, with the modulator's phase given: 'evaluate, feedback, latch', after the clock
 -- of its phase (tick)
 
-unfoldable pub voicedBy : Ways → Oscillator → ℕ → Oscillator
-voicedBy w o modulator = latchedCode (fedBack (evaluatedBy w o modulator .oscillator) (evaluatedBy w o modulator .code)) (evaluatedBy w o modulator .code)
+unfoldable pub voicedBy : Ways → Oscillator → ℕ → ℕ → Oscillator
+voicedBy w o modulator cycle =
+    latchedCode (fedBack (evaluatedBy w o modulator cycle .oscillator) (evaluatedBy w o modulator cycle .code)) (evaluatedBy w o modulator cycle .code) cycle
 
-unfoldable pub tickedBy : Ways → Oscillator → ℕ → Oscillator
-tickedBy w o modulator = voicedBy w (clockedBy w o) modulator
+-- the whole of it at the cycle that the tick makes
+unfoldable pub tickedBy : Ways → Oscillator → ℕ → ℕ → Oscillator
+tickedBy w o modulator cycle = voicedBy w (clockedBy w o cycle) modulator cycle
 
--- 'Left so': n ticks, the modulator's phase given for each
-unfoldable pub ticksBy : Ways → ℕ → Oscillator → (ℕ → ℕ) → Oscillator
-ticksBy w zero o modulators = o
-ticksBy w (suc n) o modulators = tickedBy w (ticksBy w n o modulators) (modulators n)
+-- 'Left so': n ticks from a cycle on, the modulator's phase given for each
+unfoldable pub ticksBy : Ways → ℕ → Oscillator → (ℕ → ℕ) → ℕ → Oscillator
+ticksBy w zero o modulators cycle = o
+ticksBy w (suc n) o modulators cycle = tickedBy w (ticksBy w n o modulators cycle) (modulators n) (after cycle (suc n))
 
 -- ---- the same by document 01's ways
 
-abbrev pub clocked : Oscillator → Oscillator
+abbrev pub clocked : Oscillator → ℕ → Oscillator
 clocked = clockedBy afresh
 
 abbrev pub loadedCode : Control → ℕ → ℕ
@@ -326,14 +324,14 @@ code = codeBy afresh
 abbrev pub sampledBus : FloatingBus → Control → ℕ → FloatingBus
 sampledBus = sampledBusBy afresh
 
-abbrev pub evaluated : Oscillator → ℕ → Evaluated
+abbrev pub evaluated : Oscillator → ℕ → ℕ → Evaluated
 evaluated = evaluatedBy afresh
 
-abbrev pub voiced : Oscillator → ℕ → Oscillator
+abbrev pub voiced : Oscillator → ℕ → ℕ → Oscillator
 voiced = voicedBy afresh
 
-abbrev pub ticked : Oscillator → ℕ → Oscillator
+abbrev pub ticked : Oscillator → ℕ → ℕ → Oscillator
 ticked = tickedBy afresh
 
-abbrev pub ticks : ℕ → Oscillator → (ℕ → ℕ) → Oscillator
+abbrev pub ticks : ℕ → Oscillator → (ℕ → ℕ) → ℕ → Oscillator
 ticks = ticksBy afresh

@@ -1,7 +1,8 @@
 // The oscillator of one voice (document 01, 'Oscillator'; oscillator.rs): phase, pulse, noise register, floating lines.
 // The Rust's fields stand in two structs of numbers, `Control` (what the registers say) and `Tone` (what a clock
 // changes), beside the noise register and the floating lines. A caller's loop holds these apart and uses what `Control`
-// and `Tone` have; `Oscillator` has the Rust's methods.
+// and `Tone` have; `Oscillator` has the Rust's methods. The cycle is the caller's: a method that needs it takes the
+// present one, but `clock_accumulator` the one after it.
 use floating::Floating;
 use floating::FloatingBus;
 use noise::Noise;
@@ -29,7 +30,6 @@ pub struct Tone {
     pub msb_rising: bool,
     pub last_sample: u16,
     pub pulse_output: u16,
-    pub cycle: u64,
     pub readback: u16,
 }
 
@@ -311,7 +311,6 @@ impl Tone {
             msb_rising: false,
             last_sample: self.last_sample,
             pulse_output: self.pulse_output,
-            cycle: self.cycle,
             readback: self.readback,
         }
     }
@@ -320,16 +319,8 @@ impl Tone {
     pub fn clocked(self, control: Control) -> Tone
         ensures { λ r. ⌜ r ≡ clockedTone self control ⌝ }
     {
-        let cycle = std::num::wrapping_add_u64(self.cycle, 1);
         if control.test_enabled {
-            return Tone {
-                accumulator: 0,
-                msb_rising: false,
-                last_sample: self.last_sample,
-                pulse_output: self.pulse_output,
-                cycle,
-                readback: self.readback,
-            };
+            return self.reset_phase();
         }
         let old_acc = self.accumulator;
         let new_acc = std::num::wrapping_add_u32(old_acc, control.frequency as u32) & PHASE_MASK;
@@ -338,7 +329,6 @@ impl Tone {
             msb_rising: rising(old_acc, new_acc) & SYNC_EVENT_MASK != 0,
             last_sample: self.last_sample,
             pulse_output: self.pulse_output,
-            cycle,
             readback: self.readback,
         }
     }
@@ -527,7 +517,6 @@ impl Oscillator {
             msb_rising: false,
             last_sample: WAVEFORM_PIPELINE_RESET_VALUE,
             pulse_output: WAVEFORM_MASK,
-            cycle: 0,
             readback: WAVEFORM_PIPELINE_RESET_VALUE,
         };
         let noise = NoiseGenerator::new();
@@ -604,8 +593,8 @@ impl Oscillator {
         )
     }
 
-    pub fn write_control(self, value: u8) -> Oscillator
-        ensures { λ r. ⌜ r ≡ written self value ⌝ }
+    pub fn write_control(self, value: u8, cycle: u64) -> Oscillator
+        ensures { λ r. ⌜ r ≡ written self value cycle ⌝ }
     {
         let old = self.control;
         let before = self.tone;
@@ -613,7 +602,6 @@ impl Oscillator {
         let old_bus = self.bus;
         let control = old.written(value);
         let last = before.last_sample;
-        let cycle = before.cycle;
         let bus = written_bus(old_bus, old.waveform, control.waveform, last, cycle);
         let tone = before.tested(old.test_enabled, control.test_enabled);
         let noise = tested_noise(old_noise, old, control, last, cycle);
@@ -625,8 +613,9 @@ impl Oscillator {
         }
     }
 
-    pub fn clock_accumulator(self) -> Oscillator
-        ensures { λ r. ⌜ r ≡ Oscillator·clocked self ⌝ }
+    // `cycle` is the one that this clock makes: the Rust's goes up inside.
+    pub fn clock_accumulator(self, cycle: u64) -> Oscillator
+        ensures { λ r. ⌜ r ≡ Oscillator·clocked self cycle ⌝ }
     {
         let control = self.control;
         let before = self.tone;
@@ -634,7 +623,7 @@ impl Oscillator {
         let bus = self.bus;
         let tone = before.clocked(control);
         let rising = rising(before.accumulator, tone.accumulator);
-        let noise = old_noise.step(control.test_enabled, rising, tone.cycle);
+        let noise = old_noise.step(control.test_enabled, rising, cycle);
         Oscillator {
             control,
             tone,
@@ -643,15 +632,15 @@ impl Oscillator {
         }
     }
 
-    pub fn evaluate_output(self, modulator_acc: u32) -> Evaluated
-        ensures { λ r. ⌜ r ≡ evaluated self «modulator_acc» ⌝ }
+    pub fn evaluate_output(self, modulator_acc: u32, cycle: u64) -> Evaluated
+        ensures { λ r. ⌜ r ≡ evaluated self «modulator_acc» cycle ⌝ }
     {
         let control = self.control;
         let before = self.tone;
         let noise = self.noise;
         let old_bus = self.bus;
         let numbers = noise.numbers;
-        let bus = sampled_bus(old_bus, control, before.cycle);
+        let bus = sampled_bus(old_bus, control, cycle);
         let floating = bus.numbers;
         let tone = before.compared(control);
         let code = control.code(before, numbers.visible, floating.value, modulator_acc);
@@ -680,15 +669,15 @@ impl Oscillator {
         }
     }
 
-    pub fn latch_output(self, output: u16) -> Oscillator
-        ensures { λ r. ⌜ r ≡ latchedCode self output ⌝ }
+    pub fn latch_output(self, output: u16, cycle: u64) -> Oscillator
+        ensures { λ r. ⌜ r ≡ latchedCode self output cycle ⌝ }
     {
         let control = self.control;
         let before = self.tone;
         let old_noise = self.noise;
         let bus = self.bus;
         let latched = output & WAVEFORM_MASK;
-        let noise = latched_noise(old_noise, control, latched, before.cycle);
+        let noise = latched_noise(old_noise, control, latched, cycle);
         let tone = before.latched(latched);
         Oscillator {
             control,

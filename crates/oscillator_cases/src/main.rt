@@ -2,17 +2,29 @@
 // it. data/states has the states that some calls start from. Both lists are made by tools/oracle, which says how they
 // are laid out:
 // cargo run --release -- list oscillator_calls, and oscillator_states
+// The digests hold the Rust's own cycle; here the program holds it, and hands it to every call that takes one.
 use cases::Tally;
 use floating::Floating;
 use floating::FloatingBus;
 use noise::Noise;
 use noise::NoiseGenerator;
 use oscillator::Control;
-use oscillator::Evaluated;
 use oscillator::Oscillator;
 use oscillator::Tone;
 ghost use Prim.Native.Nat.{_+_, _≤_};
 ghost use lib.ListN.{length};
+
+// An oscillator beside a cycle that runs as the Rust's own: 0 where it is made or reset, one on with each clock.
+struct Timed {
+    oscillator: Oscillator,
+    cycle: u64,
+}
+
+// What a call gave, and what it left.
+struct Gave {
+    code: u16,
+    left: Timed,
+}
 
 fn stage_charges(list: &[u8], at: usize) -> [u16; 23] {
     let mut charge = [0u16; 23];
@@ -35,7 +47,7 @@ fn line_charges(list: &[u8], at: usize) -> [u16; 12] {
 }
 
 // The state with this number.
-fn state(list: &[u8], number: usize) -> Oscillator {
+fn state(list: &[u8], number: usize) -> Timed {
     let at = number % 341 * 192;
     let flags = words::u8_at(list, at + 5);
     let control = Control {
@@ -51,7 +63,6 @@ fn state(list: &[u8], number: usize) -> Oscillator {
         msb_rising: flags / 8 % 2 == 1,
         last_sample: words::u16_at(list, at + 10),
         pulse_output: words::u16_at(list, at + 12),
-        cycle: words::u64_at(list, at + 14),
         readback: words::u16_at(list, at + 22),
     };
     let numbers = Noise {
@@ -79,11 +90,15 @@ fn state(list: &[u8], number: usize) -> Oscillator {
         numbers: floats,
         charge: lines,
     };
-    Oscillator {
+    let oscillator = Oscillator {
         control,
         tone,
         noise,
         bus,
+    };
+    Timed {
+        oscillator,
+        cycle: words::u64_at(list, at + 14),
     }
 }
 
@@ -121,7 +136,7 @@ fn with_control(before: u64, c: Control) -> u64 {
     with(b, c.waveform as u64)
 }
 
-fn with_tone(before: u64, c: Control, t: Tone) -> u64 {
+fn with_tone(before: u64, c: Control, t: Tone, cycle: u64) -> u64 {
     let flags = with_flag(
         with_flag(
             with_flag(with_flag(0, t.msb_rising), c.test_enabled),
@@ -133,7 +148,7 @@ fn with_tone(before: u64, c: Control, t: Tone) -> u64 {
     let b = with(a, t.accumulator as u64);
     let d = with(b, t.last_sample as u64);
     let e = with(d, t.pulse_output as u64);
-    let f = with(e, t.cycle);
+    let f = with(e, cycle);
     with(f, t.readback as u64)
 }
 
@@ -152,7 +167,8 @@ fn with_floating(before: u64, f: Floating) -> u64 {
     with(b, f.next_leak)
 }
 
-fn digest(o: Oscillator) -> u64 {
+fn digest(timed: Timed) -> u64 {
+    let o = timed.oscillator;
     let control = o.control;
     let tone = o.tone;
     let noise = o.noise;
@@ -162,127 +178,133 @@ fn digest(o: Oscillator) -> u64 {
     let charge = noise.charge;
     let floats = bus.numbers;
     let lines = bus.charge;
-    let a = with_tone(with_control(0, control), control, tone);
+    let a = with_tone(with_control(0, control), control, tone, timed.cycle);
     let b = with_stages(with_stages(with_noise(a, numbers), captured_charge), charge);
     with_lines(with_floating(b, floats), lines)
 }
 
-fn tick(o: Oscillator, modulator: u32) -> Evaluated {
-    let clocked = o.clock_accumulator();
-    let e = clocked.evaluate_output(modulator);
-    let code = e.code;
-    let evaluated = e.oscillator;
-    let fed = evaluated.apply_combined_feedback(code);
-    let oscillator = fed.latch_output(code);
-    Evaluated { code, oscillator }
+// What a call leaves that gives nothing.
+fn silent(oscillator: Oscillator, cycle: u64) -> Gave {
+    let left = Timed { oscillator, cycle };
+    Gave { code: 0, left }
 }
 
-fn run(o: Oscillator, clocks: u32) -> Evaluated {
-    let mut oscillator = o;
+fn clock(before: Timed) -> Gave {
+    let cycle = std::num::wrapping_add_u64(before.cycle, 1);
+    silent(before.oscillator.clock_accumulator(cycle), cycle)
+}
+
+fn evaluate(before: Timed, modulator: u32) -> Gave {
+    let cycle = before.cycle;
+    let e = before.oscillator.evaluate_output(modulator, cycle);
+    let oscillator = e.oscillator;
+    let left = Timed { oscillator, cycle };
+    Gave { code: e.code, left }
+}
+
+fn tick(before: Timed, modulator: u32) -> Gave {
+    let clocked = clock(before);
+    let e = evaluate(clocked.left, modulator);
+    let code = e.code;
+    let evaluated = e.left;
+    let cycle = evaluated.cycle;
+    let fed = evaluated.oscillator.apply_combined_feedback(code);
+    let oscillator = fed.latch_output(code, cycle);
+    let left = Timed { oscillator, cycle };
+    Gave { code, left }
+}
+
+fn run(before: Timed, clocks: u32) -> Gave {
+    let mut timed = before;
     let mut left = clocks;
     while 0 < left {
-        let tone = oscillator.tone;
-        let e = tick(oscillator, tone.accumulator);
-        let next = e.oscillator;
-        oscillator = next;
+        let e = tick(timed, timed.oscillator.tone.accumulator);
+        let next = e.left;
+        timed = next;
         left = left - 1;
     }
-    let tone = oscillator.tone;
-    Evaluated {
-        code: tone.last_sample,
-        oscillator,
+    Gave {
+        code: timed.oscillator.tone.last_sample,
+        left: timed,
     }
 }
 
-fn jump(o: Oscillator, cycles: u32) -> Oscillator {
-    let control = o.control;
-    let mut tone = o.tone;
-    let noise = o.noise;
-    let bus = o.bus;
-    tone.cycle = std::num::wrapping_add_u64(tone.cycle, cycles as u64);
-    Oscillator {
-        control,
-        tone,
-        noise,
-        bus,
-    }
-}
-
-fn silent(oscillator: Oscillator) -> Evaluated {
-    Evaluated {
-        code: 0,
-        oscillator,
-    }
-}
-
-fn made(call: u8, operand: u32, o: Oscillator, states: &[u8]) -> Evaluated {
+fn made(call: u8, operand: u32, timed: Timed, states: &[u8]) -> Gave {
     let byte = (operand % 256) as u8;
     let half = (operand % 65536) as u16;
+    let cycle = timed.cycle;
+    let o = timed.oscillator;
     match call {
-        0 => silent(Oscillator::new()),
-        1 => silent(o.reset()),
-        2 => silent(o.write_frequency_lo(byte)),
-        3 => silent(o.write_frequency_hi(byte)),
-        4 => silent(o.write_pulse_width_lo(byte)),
-        5 => silent(o.write_pulse_width_hi(byte)),
-        6 => silent(o.write_control(byte)),
-        7 => silent(o.clock_accumulator()),
-        8 => o.evaluate_output(operand),
-        9 => silent(o.apply_combined_feedback(half)),
-        10 => silent(o.latch_output(half)),
-        11 => silent(o.synchronise()),
-        12 => Evaluated {
+        0 => silent(Oscillator::new(), 0),
+        1 => silent(o.reset(), 0),
+        2 => silent(o.write_frequency_lo(byte), cycle),
+        3 => silent(o.write_frequency_hi(byte), cycle),
+        4 => silent(o.write_pulse_width_lo(byte), cycle),
+        5 => silent(o.write_pulse_width_hi(byte), cycle),
+        6 => silent(o.write_control(byte, cycle), cycle),
+        7 => clock(timed),
+        8 => evaluate(timed, operand),
+        9 => silent(o.apply_combined_feedback(half), cycle),
+        10 => silent(o.latch_output(half, cycle), cycle),
+        11 => silent(o.synchronise(), cycle),
+        12 => Gave {
             code: o.read_output() as u16,
-            oscillator: o,
+            left: timed,
         },
-        13 => Evaluated {
+        13 => Gave {
             code: o.phase(),
-            oscillator: o,
+            left: timed,
         },
-        14 => Evaluated {
+        14 => Gave {
             code: if o.output_is_frozen() { 1 } else { 0 },
-            oscillator: o,
+            left: timed,
         },
-        15 => tick(o, operand),
-        16 => run(o, operand),
-        17 => silent(jump(o, operand)),
-        _ => silent(state(states, operand as usize)),
+        15 => tick(timed, operand),
+        16 => run(timed, operand),
+        17 => silent(o, std::num::wrapping_add_u64(cycle, operand as u64)),
+        _ => {
+            let left = state(states, operand as usize);
+            Gave { code: 0, left }
+        }
     }
 }
 
 struct Compared {
     same: bool,
-    oscillator: Oscillator,
+    left: Timed,
 }
 
 // The call at a place of the list.
-fn call_at(calls: &[u8], at: usize, o: Oscillator, states: &[u8]) -> Compared
+fn call_at(calls: &[u8], at: usize, timed: Timed, states: &[u8]) -> Compared
     requires { ⌜ at + 15 ≤ length (now calls) ⌝ }
 {
     let gave = made(
         words::u8_at(calls, at),
         words::u32_at(calls, at + 1),
-        o,
+        timed,
         states,
     );
     let code = words::u16_at(calls, at + 5);
     let after = words::u64_at(calls, at + 7);
-    let oscillator = gave.oscillator;
+    let left = gave.left;
     Compared {
-        same: gave.code == code && digest(oscillator) == after,
-        oscillator,
+        same: gave.code == code && digest(left) == after,
+        left,
     }
 }
 
 fn replay(calls: &[u8], states: &[u8]) -> Tally {
     let mut tally = Tally::new();
-    let mut o = Oscillator::new();
+    let mut timed = Timed {
+        oscillator: Oscillator::new(),
+        cycle: 0,
+    };
     let mut rest = calls.len() / 15;
     let mut at: usize = 0;
     while 0 < rest {
-        let c = call_at(calls, at, o, states);
-        let next = c.oscillator;
-        o = next;
+        let c = call_at(calls, at, timed, states);
+        let next = c.left;
+        timed = next;
         tally = tally.count(c.same);
         at = at + 15;
         rest = rest - 1;

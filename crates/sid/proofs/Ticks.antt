@@ -20,15 +20,16 @@ use Rattle.oscillator.specs.declared.Control.{Control}
 use Rattle.oscillator.specs.declared.Tone.{Tone}
 use Rattle.oscillator.specs.declared.Oscillator.{Oscillator}
 use Rattle.oscillator.proofs.Parts.{voice, tick-parts}
-use Rattle.sid.specs.Sid.{clockedVoiceBy, clockedBy, voicedBy, phaseOf, withVoices, withBus, voiced0By, voiced1By, voiced2By, synchronisedIf, synced, synchronised, tickedBy}
+use Rattle.sid.specs.Sid.{clockedVoiceBy, nextCycle, clockedBy, voicedBy, phaseOf, voiced0By, voiced1By, voiced2By, synchronisedIf, synced, synchronised, tickedBy}
 use Rattle.sid.specs.declared.Voice.{Voice}
 use Rattle.sid.specs.declared.Mos6581.{Mos6581}
 
 abbrev pub pack : Control → Tone → NoiseGenerator → FloatingBus → Envelope → Voice
 pack k t g b e = record { oscillator = voice k t g b; envelope = e }
 
-abbrev pub chip : Mos6581 → InternalDataBus → Voice → Voice → Voice → Mos6581
-chip c b v w x = withVoices (withBus c b) v w x
+-- the chip of its bus, its pots, its cycle and its voices
+abbrev pub whole : InternalDataBus → ℕ → ℕ → ℕ → Voice → Voice → Voice → Mos6581
+whole b x y cycle v0 v1 v2 = record { «voice_0» = v0; «voice_1» = v1; «voice_2» = v2; «data_bus» = b; «pot_x» = x; «pot_y» = y; cycle = cycle }
 
 pub same-generator
     : {n n′ : Noise} {captured captured′ charge charge′ : List ℕ} → n ≡ n′ → captured ≡ captured′ → charge ≡ charge′
@@ -44,22 +45,22 @@ same-lines p q = ap₂ lines p q
 
 -- any voice, up to its latch
 pub voice-parts
-    : (ways : Ways) (k : Control) (t : Tone) (g : NoiseGenerator) (b : FloatingBus) (e : Envelope) (modulator : ℕ)
+    : (ways : Ways) (k : Control) (t : Tone) (g : NoiseGenerator) (b : FloatingBus) (e : Envelope) (modulator cycle : ℕ)
     (t1 : Tone) (g1 : NoiseGenerator) (b1 : FloatingBus) (output : ℕ) (t2 : Tone) (g2 g3 : NoiseGenerator) (e1 : Envelope)
     → t1 ≡ clockedTone t k
-    → g1 ≡ steppedBy (ways .recover) g (k .«test_enabled») (rising (t .accumulator) (t1 .accumulator)) (t1 .cycle)
-    → b1 ≡ sampledBusBy ways b k (t1 .cycle)
+    → g1 ≡ steppedBy (ways .recover) g (k .«test_enabled») (rising (t .accumulator) (t1 .accumulator)) cycle
+    → b1 ≡ sampledBusBy ways b k cycle
     → output ≡ codeBy ways k t1 (g1 .numbers .visible) (b1 .numbers .value) modulator
     → t2 ≡ latchedTone (fedBackTone (comparedTone t1 k) k output) output
     → g2 ≡ coupledNoise g1 k output
-    → g3 ≡ pulledNoise g2 k output (t1 .cycle)
+    → g3 ≡ pulledNoise g2 k output cycle
     → e1 ≡ Envelope·clocked e
-    → pack k t2 g3 b1 e1 ≡ voicedBy ways (clockedVoiceBy ways (pack k t g b e)) modulator
+    → pack k t2 g3 b1 e1 ≡ voicedBy ways (clockedVoiceBy ways (pack k t g b e) cycle) modulator cycle
 unfolding voicedBy clockedVoiceBy Oscillator·tickedBy latchedNoise
-voice-parts ways k t g b e modulator t1 g1 b1 output t2 g2 g3 e1 p q r s u v w x =
+voice-parts ways k t g b e modulator cycle t1 g1 b1 output t2 g2 g3 e1 p q r s u v w x =
     ap₂ (λ (o : Oscillator) (y : Envelope). record { oscillator = o; envelope = y })
-    (ap₂ (λ (y : Tone) (z : NoiseGenerator). voice k y z b1) u (w ∙ ap (λ (y : NoiseGenerator). pulledNoise y k output (t1 .cycle)) v)
-    ∙ tick-parts ways k t g b modulator t1 g1 b1 output p q r s)
+    (ap₂ (λ (y : Tone) (z : NoiseGenerator). voice k y z b1) u (w ∙ ap (λ (y : NoiseGenerator). pulledNoise y k output cycle) v)
+    ∙ tick-parts ways k t g b modulator cycle t1 g1 b1 output p q r s)
     x
 
 -- any voice, synchronised or not
@@ -74,26 +75,31 @@ sync-parts k t g b e taken t1 p = ap (λ (y : Tone). pack k y g b e) p ∙ go ta
     go true = refl
     go false = refl
 
-module _ (ways : Ways) (c : Mos6581) (b : InternalDataBus) (v w x : Voice) where
+module _ (ways : Ways) (c : Mos6581) (b : InternalDataBus) (cycle : ℕ) (v w x : Voice) where
+  abbrev with : Voice → Voice → Voice → Mos6581
+  with = whole b (c .«pot_x») (c .«pot_y») cycle
+
   rung
       : b ≡ Bus·clocked (c .«data_bus»)
-      → v ≡ voicedBy ways (clockedVoiceBy ways (c .«voice_0»)) (phaseOf (clockedVoiceBy ways (c .«voice_2»)))
-      → w ≡ voicedBy ways (clockedVoiceBy ways (c .«voice_1»)) (phaseOf v)
-      → x ≡ voicedBy ways (clockedVoiceBy ways (c .«voice_2»)) (phaseOf w)
-      → chip c b v w x ≡ voiced2By ways (voiced1By ways (voiced0By ways (clockedBy ways c)))
+      → cycle ≡ nextCycle c
+      → v ≡ voicedBy ways (clockedVoiceBy ways (c .«voice_0») cycle) (phaseOf (clockedVoiceBy ways (c .«voice_2») cycle)) cycle
+      → w ≡ voicedBy ways (clockedVoiceBy ways (c .«voice_1») cycle) (phaseOf v) cycle
+      → x ≡ voicedBy ways (clockedVoiceBy ways (c .«voice_2») cycle) (phaseOf w) cycle
+      → with v w x ≡ voiced2By ways (voiced1By ways (voiced0By ways (clockedBy ways c)))
   unfolding voiced0By voiced1By voiced2By clockedBy
-  rung o p q r = simp (r, q, p, o)
+  rung o n p q r = simp (r, q, p, o, n)
 
   pub chip-parts
       : b ≡ Bus·clocked (c .«data_bus»)
-      → v ≡ voicedBy ways (clockedVoiceBy ways (c .«voice_0»)) (phaseOf (clockedVoiceBy ways (c .«voice_2»)))
-      → w ≡ voicedBy ways (clockedVoiceBy ways (c .«voice_1»)) (phaseOf v)
-      → x ≡ voicedBy ways (clockedVoiceBy ways (c .«voice_2»)) (phaseOf w)
+      → cycle ≡ nextCycle c
+      → v ≡ voicedBy ways (clockedVoiceBy ways (c .«voice_0») cycle) (phaseOf (clockedVoiceBy ways (c .«voice_2») cycle)) cycle
+      → w ≡ voicedBy ways (clockedVoiceBy ways (c .«voice_1») cycle) (phaseOf v) cycle
+      → x ≡ voicedBy ways (clockedVoiceBy ways (c .«voice_2») cycle) (phaseOf w) cycle
       → (v1 w1 x1 : Voice)
       → v1 ≡ synced v x w
       → w1 ≡ synced w v x
       → x1 ≡ synced x w v
-      → chip c b v1 w1 x1 ≡ tickedBy ways c
+      → with v1 w1 x1 ≡ tickedBy ways c
   unfolding tickedBy synchronised
-  chip-parts o p q r v1 w1 x1 e f g =
-      ap (λ (y : Voice). chip c b y w1 x1) e ∙ ap₂ (chip c b (synced v x w)) f g ∙ ap synchronised (rung o p q r)
+  chip-parts o n p q r v1 w1 x1 e f g =
+      ap (λ (y : Voice). with y w1 x1) e ∙ ap₂ (with (synced v x w)) f g ∙ ap synchronised (rung o n p q r)

@@ -4,6 +4,7 @@ use mathlib.Core.Path.{_≡_, refl, ap, sym, _∙_}
 use mathlib.Core.Bool.{Bool, cond}
 use mathlib.Core.List.{List}
 use Prim.Native.Nat.{ℕ, _≤_}
+use Rattle.laws.specs.Cycle.{after as Cycle·after}
 use Rattle.laws.proofs.After.{After, taken, left, after-due}
 use Rattle.laws.proofs.Loops.{ended}
 use Rattle.bus.specs.Bus.{clocked as Bus·clocked}
@@ -27,7 +28,7 @@ use Rattle.oscillator.specs.Loop.{sampleDue, plainCode}
 use Rattle.oscillator.specs.declared.Control.{Control}
 use Rattle.oscillator.specs.declared.Tone.{Tone}
 use Rattle.oscillator.proofs.Due.{Still, sample-due, sample-still, couple-due, couple-still, pull-due, pull-still, code-loaded, code-plain}
-use Rattle.sid.proofs.Ticks.{pack, same-charge, voice-parts, sync-parts, chip-parts}
+use Rattle.sid.proofs.Ticks.{pack, whole, same-charge, voice-parts, sync-parts, chip-parts}
 use Rattle.sid.specs.Sid.{clockedVoiceBy, voicedBy, syncs, tickedBy, ticksBy}
 use Rattle.sid.specs.declared.Voice.{Voice}
 use Rattle.sid.specs.declared.Mos6581.{Mos6581}
@@ -51,33 +52,32 @@ module _ {ways : Ways} (still : Still ways) (v : Voice) where
   b = v .oscillator .bus
 
   pub turn
-      : (modulator : ℕ) {t1 t2 : Tone} {n1 n2 : Noise} {held1 held2 charge1 charge2 charge3 : List ℕ} {f1 : Floating} {wires1 : List ℕ}
+      : (modulator cycle : ℕ) {t1 t2 : Tone} {n1 n2 : Noise} {held1 held2 charge1 charge2 charge3 : List ℕ} {f1 : Floating} {wires1 : List ℕ}
       {e1 : Envelope} {up plain output : ℕ} {steps rests leaks loads feeds pulls : Bool}
       → t1 ≡ clockedTone t k
       → up ≡ rising (t .accumulator) (t1 .accumulator)
-      → steps ≡ stepDue (g .numbers) (k .«test_enabled») up (t1 .cycle)
-      → After steps (steppedBy (ways .recover) g (k .«test_enabled») up (t1 .cycle)) g (generator n1 held1 charge1)
+      → steps ≡ stepDue (g .numbers) (k .«test_enabled») up cycle
+      → After steps (steppedBy (ways .recover) g (k .«test_enabled») up cycle) g (generator n1 held1 charge1)
       → rests ≡ quiescent (v .envelope)
       → After rests (rateClocked (levelRead (v .envelope))) (Envelope·clocked (v .envelope)) e1
-      → leaks ≡ sampleDue k (b .numbers) (t1 .cycle)
-      → After leaks (ways .leak b (t1 .cycle)) b (lines f1 wires1)
+      → leaks ≡ sampleDue k (b .numbers) cycle
+      → After leaks (ways .leak b cycle) b (lines f1 wires1)
       → plain ≡ plainCode k t1 (n1 .visible) (f1 .value) modulator
       → loads ≡ loadsLines k
       → After loads (loadedCodeBy ways k plain) plain output
       → t2 ≡ latchedTone (fedBackTone (comparedTone t1 k) k output) output
       → feeds ≡ couples k
       → After feeds (coupledTo output charge1 8) charge1 charge2
-      → pulls ≡ pullsDown k n1 (t1 .cycle)
-      → After pulls (pulledDown (generator n1 held1 charge2) output (t1 .cycle)) (generator n1 held1 charge2) (generator n2 held2 charge3)
-      → parts k t2 n2 held2 charge3 f1 wires1 e1 ≡ voicedBy ways (clockedVoiceBy ways v) modulator
-  turn modulator {t1} {t2} {n1} {n2} {held1} {held2} {charge1} {charge2} {charge3} {f1} {wires1} {e1} {up} {plain} {output} {feeds = feeds}
+      → pulls ≡ pullsDown k n1 cycle
+      → After pulls (pulledDown (generator n1 held1 charge2) output cycle) (generator n1 held1 charge2) (generator n2 held2 charge3)
+      → parts k t2 n2 held2 charge3 f1 wires1 e1 ≡ voicedBy ways (clockedVoiceBy ways v cycle) modulator cycle
+  turn modulator cycle {t1} {t2} {n1} {n2} {held1} {held2} {charge1} {charge2} {charge3} {f1} {wires1} {e1} {up} {plain} {output} {feeds = feeds}
       toned rose steps? stepped? rests? moved? leaks? sampled? plainly loads? loaded? sounded feeds? fed? pulls? pulled? =
       let e = v .envelope in
       let g1 : NoiseGenerator = generator n1 held1 charge1 in
       let g2 : NoiseGenerator = generator n1 held1 charge2 in
       let test = k .«test_enabled» in
-      let cycle = t1 .cycle in
-      voice-parts ways k t g b e modulator t1 g1 (lines f1 wires1) output t2 g2 (generator n2 held2 charge3) e1
+      voice-parts ways k t g b e modulator cycle t1 g1 (lines f1 wires1) output t2 g2 (generator n2 held2 charge3) e1
       toned
       (after-due (steppedBy (ways .recover) g test up cycle) steps? stepped? (λ h. refl) (step-still (still .recovers) g test up cycle)
       ∙ ap (λ (x : ℕ). steppedBy (ways .recover) g test x cycle) rose)
@@ -103,27 +103,24 @@ faded : {b b1 : InternalDataBus} → Fade b b1 → b1 ≡ Bus·clocked b
 faded (fades p) = p
 faded {b} (empty h p) = p ∙ sym (clocked-empty b h)
 
--- the chip of its bus, its pots and its voices
-abbrev pub whole : InternalDataBus → ℕ → ℕ → Voice → Voice → Voice → Mos6581
-whole b x y v0 v1 v2 = record { «voice_0» = v0; «voice_1» = v1; «voice_2» = v2; «data_bus» = b; «pot_x» = x; «pot_y» = y }
-
--- the chip: the bus, each voice's turn, and synchronisation
+-- the chip: the bus, the cycle, each voice's turn, and synchronisation
 pub round
-    : (ways : Ways) (v0 v1 v2 : Voice) {b b1 : InternalDataBus} {x y : ℕ} {k0 k1 k2 : Control} {t0 t1 t2 u0 u1 u2 s : Tone}
+    : (ways : Ways) (cycle : ℕ) (v0 v1 v2 : Voice) {b b1 : InternalDataBus} {x y next : ℕ} {k0 k1 k2 : Control} {t0 t1 t2 u0 u1 u2 s : Tone}
     {g0 g1 g2 : NoiseGenerator} {l0 l1 l2 : FloatingBus} {e0 e1 e2 : Envelope}
     → Fade b b1
-    → pack k0 t0 g0 l0 e0 ≡ voicedBy ways (clockedVoiceBy ways v0) (s .accumulator)
-    → pack k1 t1 g1 l1 e1 ≡ voicedBy ways (clockedVoiceBy ways v1) (t0 .accumulator)
-    → pack k2 t2 g2 l2 e2 ≡ voicedBy ways (clockedVoiceBy ways v2) (t1 .accumulator)
+    → next ≡ Cycle·after cycle 1
+    → pack k0 t0 g0 l0 e0 ≡ voicedBy ways (clockedVoiceBy ways v0 next) (s .accumulator) next
+    → pack k1 t1 g1 l1 e1 ≡ voicedBy ways (clockedVoiceBy ways v1 next) (t0 .accumulator) next
+    → pack k2 t2 g2 l2 e2 ≡ voicedBy ways (clockedVoiceBy ways v2 next) (t1 .accumulator) next
     → s ≡ clockedTone (v2 .oscillator .tone) (v2 .oscillator .control)
     → u0 ≡ cond (syncs (t2 .«msb_rising») (k0 .«sync_enabled») (k2 .«sync_enabled») (t1 .«msb_rising»)) (resetPhase t0) t0
     → u1 ≡ cond (syncs (t0 .«msb_rising») (k1 .«sync_enabled») (k0 .«sync_enabled») (t2 .«msb_rising»)) (resetPhase t1) t1
     → u2 ≡ cond (syncs (t1 .«msb_rising») (k2 .«sync_enabled») (k1 .«sync_enabled») (t0 .«msb_rising»)) (resetPhase t2) t2
-    → whole b1 x y (pack k0 u0 g0 l0 e0) (pack k1 u1 g1 l1 e1) (pack k2 u2 g2 l2 e2) ≡ tickedBy ways (whole b x y v0 v1 v2)
+    → whole b1 x y next (pack k0 u0 g0 l0 e0) (pack k1 u1 g1 l1 e1) (pack k2 u2 g2 l2 e2) ≡ tickedBy ways (whole b x y cycle v0 v1 v2)
 unfolding clockedVoiceBy Oscillator·clockedBy
-round ways v0 v1 v2 {b} {b1} {x} {y} {k0} {k1} {k2} {t0} {t1} {t2} {u0} {u1} {u2} {s} {g0} {g1} {g2} {l0} {l1} {l2} {e0} {e1} {e2} o p q r m f g h =
-    chip-parts ways (whole b x y v0 v1 v2) b1 (pack k0 t0 g0 l0 e0) (pack k1 t1 g1 l1 e1) (pack k2 t2 g2 l2 e2)
-    (faded o) (p ∙ ap (voicedBy ways (clockedVoiceBy ways v0)) (ap (λ (z : Tone). z .accumulator) m)) q r _ _ _
+round ways cycle v0 v1 v2 {b} {b1} {x} {y} {next} {k0} {k1} {k2} {t0} {t1} {t2} {u0} {u1} {u2} {s} {g0} {g1} {g2} {l0} {l1} {l2} {e0} {e1} {e2} o n p q r m f g h =
+    chip-parts ways (whole b x y cycle v0 v1 v2) b1 next (pack k0 t0 g0 l0 e0) (pack k1 t1 g1 l1 e1) (pack k2 t2 g2 l2 e2)
+    (faded o) n (p ∙ ap (λ (z : Tone). voicedBy ways (clockedVoiceBy ways v0 next) (z .accumulator) next) m) q r _ _ _
     (sync-parts k0 t0 g0 l0 e0 _ u0 f) (sync-parts k1 t1 g1 l1 e1 _ u1 g) (sync-parts k2 t2 g2 l2 e2 _ u2 h)
 
 -- the loop's end

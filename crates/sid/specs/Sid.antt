@@ -4,6 +4,7 @@ use Prim.Native.Nat.{ℕ, zero, suc, _/_, _%_}
 use mathlib.Core.Bool.{Bool, cond, not, _&&_}
 use mathlib.Core.List.{List, [], _∷_}
 use lib.Dec.{eqb, ltb}
+use Rattle.laws.specs.Cycle.{after as Cycle·after}
 use Rattle.laws.specs.Times.{times}
 use Rattle.refusals.specs.Refusals.{numbered, Told as Refusals·Told, told as Refusals·told}
 use Rattle.bus.specs.Bus.{fresh as Bus·fresh, driven, clocked as Bus·clocked}
@@ -19,13 +20,15 @@ use Rattle.sid.specs.declared.Read.{Read}
 use Rattle.sid.specs.declared.Answer.{Answer}
 use Rattle.sid.specs.declared.Answer.the-variants.{Code, Level, Held, Refused}
 
--- ---- 'Pots are 0xff when fresh, set by the host and kept by reset; a chip reset clears the bus byte.' (new, reset)
+-- ---- 'Pots are 0xff when fresh, set by the host and kept by reset; a chip reset clears the bus byte.' Document 02,
+-- request 8: 'Keep one [cycle] in the chip'; the Rust's oscillators have one each, and all are 0 when fresh or reset
+-- (new, reset)
 
 abbrev pub freshVoice : Voice
 freshVoice = record { oscillator = Oscillator·fresh 0x555555; envelope = Envelope·fresh }
 
 unfoldable pub fresh : Mos6581
-fresh = record { «voice_0» = freshVoice; «voice_1» = freshVoice; «voice_2» = freshVoice; «data_bus» = Bus·fresh; «pot_x» = 0xff; «pot_y» = 0xff }
+fresh = record { «voice_0» = freshVoice; «voice_1» = freshVoice; «voice_2» = freshVoice; «data_bus» = Bus·fresh; «pot_x» = 0xff; «pot_y» = 0xff; cycle = 0 }
 
 -- a voice keeps its phase, its level and its rate phase
 unfoldable pub resetVoice : Voice → Voice
@@ -39,6 +42,7 @@ reset c = record {
   «data_bus» = Bus·fresh;
   «pot_x» = c .«pot_x»;
   «pot_y» = c .«pot_y»;
+  cycle = 0;
 }
 
 -- ---- 'address masked with 0x1f': seven registers a voice, then those that no voice has
@@ -46,14 +50,15 @@ reset c = record {
 abbrev pub register : ℕ → ℕ
 register address = address % 32
 
--- a voice's frequency, pulse width and control, of its seven registers (write, write_voice_control)
-unfoldable pub writtenOscillator : Oscillator → ℕ → ℕ → Oscillator
-writtenOscillator o register value =
+-- a voice's frequency, pulse width and control, of its seven registers, at the present cycle (write,
+-- write_voice_control)
+unfoldable pub writtenOscillator : Oscillator → ℕ → ℕ → ℕ → Oscillator
+writtenOscillator o register value cycle =
     cond (eqb register 0) (writtenFrequencyLo o value)
     (cond (eqb register 1) (writtenFrequencyHi o value)
     (cond (eqb register 2) (writtenPulseWidthLo o value)
     (cond (eqb register 3) (writtenPulseWidthHi o value)
-    (cond (eqb register 4) (Oscillator·written o value) o))))
+    (cond (eqb register 4) (Oscillator·written o value cycle) o))))
 
 -- its control's gate, attack and decay, sustain and release (write, write_voice_control)
 unfoldable pub writtenEnvelope : Envelope → ℕ → ℕ → Envelope
@@ -62,26 +67,27 @@ writtenEnvelope e register value =
     (cond (eqb register 5) (attackDecaySet e value)
     (cond (eqb register 6) (sustainReleaseSet e value) e))
 
-unfoldable pub writtenVoice : Voice → ℕ → ℕ → Voice
-writtenVoice v register value = record {
-  oscillator = writtenOscillator (v .oscillator) register value;
+unfoldable pub writtenVoice : Voice → ℕ → ℕ → ℕ → Voice
+writtenVoice v register value cycle = record {
+  oscillator = writtenOscillator (v .oscillator) register value cycle;
   envelope = writtenEnvelope (v .envelope) register value;
 }
 
 -- voice n, after a write that may be another's
-unfoldable pub writtenTo : ℕ → Voice → ℕ → ℕ → Voice
-writtenTo n v register value = cond (eqb (register / 7) n) (writtenVoice v (register % 7) value) v
+unfoldable pub writtenTo : ℕ → Voice → ℕ → ℕ → ℕ → Voice
+writtenTo n v register value cycle = cond (eqb (register / 7) n) (writtenVoice v (register % 7) value cycle) v
 
 -- 'Every write, also to an unused address, drives the byte'; 'Writes to 0x15 to 0x18 therefore only drive the bus'
 -- (write)
 unfoldable pub written : Mos6581 → ℕ → ℕ → Mos6581
 written c address value = record {
-  «voice_0» = writtenTo 0 (c .«voice_0») (register address) value;
-  «voice_1» = writtenTo 1 (c .«voice_1») (register address) value;
-  «voice_2» = writtenTo 2 (c .«voice_2») (register address) value;
+  «voice_0» = writtenTo 0 (c .«voice_0») (register address) value (c .cycle);
+  «voice_1» = writtenTo 1 (c .«voice_1») (register address) value (c .cycle);
+  «voice_2» = writtenTo 2 (c .«voice_2») (register address) value (c .cycle);
   «data_bus» = driven value;
   «pot_x» = c .«pot_x»;
   «pot_y» = c .«pot_y»;
+  cycle = c .cycle;
 }
 
 -- ---- 'Reads of 0x19 to 0x1c (pot X, pot Y, OSC3, ENV3) drive what they return; every other read returns the floating byte and renews nothing.' (read)
@@ -94,7 +100,7 @@ abbrev pub env3 : Mos6581 → ℕ
 env3 c = c .«voice_2» .envelope .readback
 
 abbrev pub withBus : Mos6581 → InternalDataBus → Mos6581
-withBus c b = record { «voice_0» = c .«voice_0»; «voice_1» = c .«voice_1»; «voice_2» = c .«voice_2»; «data_bus» = b; «pot_x» = c .«pot_x»; «pot_y» = c .«pot_y» }
+withBus c b = record { «voice_0» = c .«voice_0»; «voice_1» = c .«voice_1»; «voice_2» = c .«voice_2»; «data_bus» = b; «pot_x» = c .«pot_x»; «pot_y» = c .«pot_y»; cycle = c .cycle }
 
 unfoldable pub readDriven : Mos6581 → ℕ → Read
 readDriven c value = record { chip = withBus c (driven value); byte = value }
@@ -108,46 +114,51 @@ readAt c address =
 
 -- 'set by the host'
 abbrev pub withPotX : Mos6581 → ℕ → Mos6581
-withPotX c value = record { «voice_0» = c .«voice_0»; «voice_1» = c .«voice_1»; «voice_2» = c .«voice_2»; «data_bus» = c .«data_bus»; «pot_x» = value; «pot_y» = c .«pot_y» }
+withPotX c value = record { «voice_0» = c .«voice_0»; «voice_1» = c .«voice_1»; «voice_2» = c .«voice_2»; «data_bus» = c .«data_bus»; «pot_x» = value; «pot_y» = c .«pot_y»; cycle = c .cycle }
 
 abbrev pub withPotY : Mos6581 → ℕ → Mos6581
-withPotY c value = record { «voice_0» = c .«voice_0»; «voice_1» = c .«voice_1»; «voice_2» = c .«voice_2»; «data_bus» = c .«data_bus»; «pot_x» = c .«pot_x»; «pot_y» = value }
+withPotY c value = record { «voice_0» = c .«voice_0»; «voice_1» = c .«voice_1»; «voice_2» = c .«voice_2»; «data_bus» = c .«data_bus»; «pot_x» = c .«pot_x»; «pot_y» = value; cycle = c .cycle }
 
--- ---- 'Tick order: bus; three phases; three envelopes; …' (tick)
+-- ---- 'Tick order: bus; three phases; three envelopes; …' The cycle goes up once, before the phases, and all that
+-- follows in the tick sees the new one (tick; clock_accumulator)
 
-unfoldable pub clockedVoiceBy : Ways → Voice → Voice
-clockedVoiceBy w v = record { oscillator = Oscillator·clockedBy w (v .oscillator); envelope = Envelope·clocked (v .envelope) }
+unfoldable pub clockedVoiceBy : Ways → Voice → ℕ → Voice
+clockedVoiceBy w v cycle = record { oscillator = Oscillator·clockedBy w (v .oscillator) cycle; envelope = Envelope·clocked (v .envelope) }
+
+abbrev pub nextCycle : Mos6581 → ℕ
+nextCycle c = Cycle·after (c .cycle) 1
 
 unfoldable pub clockedBy : Ways → Mos6581 → Mos6581
 clockedBy w c = record {
-  «voice_0» = clockedVoiceBy w (c .«voice_0»);
-  «voice_1» = clockedVoiceBy w (c .«voice_1»);
-  «voice_2» = clockedVoiceBy w (c .«voice_2»);
+  «voice_0» = clockedVoiceBy w (c .«voice_0») (nextCycle c);
+  «voice_1» = clockedVoiceBy w (c .«voice_1») (nextCycle c);
+  «voice_2» = clockedVoiceBy w (c .«voice_2») (nextCycle c);
   «data_bus» = Bus·clocked (c .«data_bus»);
   «pot_x» = c .«pot_x»;
   «pot_y» = c .«pot_y»;
+  cycle = nextCycle c;
 }
 
 -- '… then per voice evaluate, feedback, latch', with the phase of the voice before it in the ring
-unfoldable pub voicedBy : Ways → Voice → ℕ → Voice
-voicedBy w v modulator = record { oscillator = Oscillator·voicedBy w (v .oscillator) modulator; envelope = v .envelope }
+unfoldable pub voicedBy : Ways → Voice → ℕ → ℕ → Voice
+voicedBy w v modulator cycle = record { oscillator = Oscillator·voicedBy w (v .oscillator) modulator cycle; envelope = v .envelope }
 
 abbrev pub phaseOf : Voice → ℕ
 phaseOf v = v .oscillator .tone .accumulator
 
 abbrev pub withVoices : Mos6581 → Voice → Voice → Voice → Mos6581
-withVoices c v w x = record { «voice_0» = v; «voice_1» = w; «voice_2» = x; «data_bus» = c .«data_bus»; «pot_x» = c .«pot_x»; «pot_y» = c .«pot_y» }
+withVoices c v w x = record { «voice_0» = v; «voice_1» = w; «voice_2» = x; «data_bus» = c .«data_bus»; «pot_x» = c .«pot_x»; «pot_y» = c .«pot_y»; cycle = c .cycle }
 
 -- 'voice 0 seeing voice 2's phase before that voice's feedback'
 unfoldable pub voiced0By : Ways → Mos6581 → Mos6581
-voiced0By w c = withVoices c (voicedBy w (c .«voice_0») (phaseOf (c .«voice_2»))) (c .«voice_1») (c .«voice_2»)
+voiced0By w c = withVoices c (voicedBy w (c .«voice_0») (phaseOf (c .«voice_2»)) (c .cycle)) (c .«voice_1») (c .«voice_2»)
 
 -- 'and voices 1 and 2 the phase before them after it'
 unfoldable pub voiced1By : Ways → Mos6581 → Mos6581
-voiced1By w c = withVoices c (c .«voice_0») (voicedBy w (c .«voice_1») (phaseOf (c .«voice_0»))) (c .«voice_2»)
+voiced1By w c = withVoices c (c .«voice_0») (voicedBy w (c .«voice_1») (phaseOf (c .«voice_0»)) (c .cycle)) (c .«voice_2»)
 
 unfoldable pub voiced2By : Ways → Mos6581 → Mos6581
-voiced2By w c = withVoices c (c .«voice_0») (c .«voice_1») (voicedBy w (c .«voice_2») (phaseOf (c .«voice_1»)))
+voiced2By w c = withVoices c (c .«voice_0») (c .«voice_1») (voicedBy w (c .«voice_2») (phaseOf (c .«voice_1»)) (c .cycle))
 
 -- 'then synchronisation, judged from marks read beforehand': a source whose mark is set takes along a voice with sync
 -- enabled, unless the source, with sync enabled too, sees its own source's mark
@@ -180,13 +191,13 @@ ticksBy w n c = times n (tickedBy w) c
 
 -- ---- the same by document 01's ways
 
-abbrev pub clockedVoice : Voice → Voice
+abbrev pub clockedVoice : Voice → ℕ → Voice
 clockedVoice = clockedVoiceBy afresh
 
 abbrev pub clocked : Mos6581 → Mos6581
 clocked = clockedBy afresh
 
-abbrev pub voiced : Voice → ℕ → Voice
+abbrev pub voiced : Voice → ℕ → ℕ → Voice
 voiced = voicedBy afresh
 
 abbrev pub voiced0 : Mos6581 → Mos6581

@@ -25,6 +25,7 @@ pub struct Mos6581 {
     pub data_bus: InternalDataBus,
     pub pot_x: u8,
     pub pot_y: u8,
+    pub cycle: u64,
 }
 
 pub struct Read {
@@ -43,15 +44,15 @@ pub enum Answer {
 const POT_RESET_VALUE: u8 = 0xff;
 
 // The voices' arms of the Rust's `write`, with `write_voice_control`: what reaches the oscillator, and what the envelope.
-fn write_oscillator(o: Oscillator, register: u8, value: u8) -> Oscillator
-    ensures { λ r. ⌜ r ≡ writtenOscillator o register value ⌝ }
+fn write_oscillator(o: Oscillator, register: u8, value: u8, cycle: u64) -> Oscillator
+    ensures { λ r. ⌜ r ≡ writtenOscillator o register value cycle ⌝ }
 {
     match register {
         0 => o.write_frequency_lo(value),
         1 => o.write_frequency_hi(value),
         2 => o.write_pulse_width_lo(value),
         3 => o.write_pulse_width_hi(value),
-        4 => o.write_control(value),
+        4 => o.write_control(value, cycle),
         _ => o,
     }
 }
@@ -92,12 +93,12 @@ impl Voice {
         }
     }
 
-    fn write(self, register: u8, value: u8) -> Voice
-        ensures { λ r. ⌜ r ≡ writtenVoice self register value ⌝ }
+    fn write(self, register: u8, value: u8, cycle: u64) -> Voice
+        ensures { λ r. ⌜ r ≡ writtenVoice self register value cycle ⌝ }
     {
         let o = self.oscillator;
         let e = self.envelope;
-        let oscillator = write_oscillator(o, register, value);
+        let oscillator = write_oscillator(o, register, value, cycle);
         let envelope = write_envelope(e, register, value);
         Voice {
             oscillator,
@@ -106,11 +107,11 @@ impl Voice {
     }
 
     // Which voice the Rust's `write` reaches.
-    fn write_to(self, number: u8, register: u8, value: u8) -> Voice
-        ensures { λ r. ⌜ r ≡ writtenTo number self register value ⌝ }
+    fn write_to(self, number: u8, register: u8, value: u8, cycle: u64) -> Voice
+        ensures { λ r. ⌜ r ≡ writtenTo number self register value cycle ⌝ }
     {
         if register / 7 == number {
-            return self.write(register % 7, value);
+            return self.write(register % 7, value, cycle);
         }
         self
     }
@@ -188,6 +189,7 @@ impl Mos6581 {
             data_bus,
             pot_x: POT_RESET_VALUE,
             pot_y: POT_RESET_VALUE,
+            cycle: 0,
         }
     }
 
@@ -209,6 +211,7 @@ impl Mos6581 {
             data_bus,
             pot_x: self.pot_x,
             pot_y: self.pot_y,
+            cycle: 0,
         }
     }
 
@@ -221,9 +224,9 @@ impl Mos6581 {
         let b = self.data_bus;
         let register = (address % 32) as u8;
         let data_bus = bus::lent_drive(b, value);
-        let voice_0 = v.write_to(0, register, value);
-        let voice_1 = w.write_to(1, register, value);
-        let voice_2 = x.write_to(2, register, value);
+        let voice_0 = v.write_to(0, register, value, self.cycle);
+        let voice_1 = w.write_to(1, register, value, self.cycle);
+        let voice_2 = x.write_to(2, register, value, self.cycle);
         Mos6581 {
             voice_0,
             voice_1,
@@ -231,6 +234,7 @@ impl Mos6581 {
             data_bus,
             pot_x: self.pot_x,
             pot_y: self.pot_y,
+            cycle: self.cycle,
         }
     }
 

@@ -52,42 +52,41 @@ pub fn tick(chip: Mos6581) -> Ticked
     if data_bus.value != 0 {
         data_bus = bus::lent_clock(data_bus);
     }
+    // the cycle
+    let cycle = std::num::wrapping_add_u64(chip.cycle, 1);
     // three phases, with the noise registers that they clock
     let old_0 = tone_0.accumulator;
     tone_0 = tone_0.clocked(control_0);
-    let cycle_0 = tone_0.cycle;
     let rising_0 = oscillator::rising(old_0, tone_0.accumulator);
-    if noise_0.step_due(control_0.test_enabled, rising_0, cycle_0) {
+    if noise_0.step_due(control_0.test_enabled, rising_0, cycle) {
         noise_0 = noise_0.step_lent(
             control_0.test_enabled,
             rising_0,
-            cycle_0,
+            cycle,
             &mut captured_0,
             &mut charge_0,
         );
     }
     let old_1 = tone_1.accumulator;
     tone_1 = tone_1.clocked(control_1);
-    let cycle_1 = tone_1.cycle;
     let rising_1 = oscillator::rising(old_1, tone_1.accumulator);
-    if noise_1.step_due(control_1.test_enabled, rising_1, cycle_1) {
+    if noise_1.step_due(control_1.test_enabled, rising_1, cycle) {
         noise_1 = noise_1.step_lent(
             control_1.test_enabled,
             rising_1,
-            cycle_1,
+            cycle,
             &mut captured_1,
             &mut charge_1,
         );
     }
     let old_2 = tone_2.accumulator;
     tone_2 = tone_2.clocked(control_2);
-    let cycle_2 = tone_2.cycle;
     let rising_2 = oscillator::rising(old_2, tone_2.accumulator);
-    if noise_2.step_due(control_2.test_enabled, rising_2, cycle_2) {
+    if noise_2.step_due(control_2.test_enabled, rising_2, cycle) {
         noise_2 = noise_2.step_lent(
             control_2.test_enabled,
             rising_2,
-            cycle_2,
+            cycle,
             &mut captured_2,
             &mut charge_2,
         );
@@ -109,8 +108,8 @@ pub fn tick(chip: Mos6581) -> Ticked
         envelope_2 = envelope_2.clock();
     }
     // the voices in ring order: code, feedback, latch
-    if control_0.sample_due(floating_0, cycle_0) {
-        floating_0 = floating_0.sample_lent(cycle_0, &mut lines_0);
+    if control_0.sample_due(floating_0, cycle) {
+        floating_0 = floating_0.sample_lent(cycle, &mut lines_0);
     }
     let mut code_0 = control_0.plain_code(
         tone_0,
@@ -125,11 +124,11 @@ pub fn tick(chip: Mos6581) -> Ticked
     if control_0.couples() {
         noise::couple(&mut charge_0, code_0);
     }
-    if control_0.pulls_down(noise_0, cycle_0) {
-        noise_0 = noise_0.pull_down_lent(code_0, cycle_0, &mut captured_0, &mut charge_0);
+    if control_0.pulls_down(noise_0, cycle) {
+        noise_0 = noise_0.pull_down_lent(code_0, cycle, &mut captured_0, &mut charge_0);
     }
-    if control_1.sample_due(floating_1, cycle_1) {
-        floating_1 = floating_1.sample_lent(cycle_1, &mut lines_1);
+    if control_1.sample_due(floating_1, cycle) {
+        floating_1 = floating_1.sample_lent(cycle, &mut lines_1);
     }
     let mut code_1 = control_1.plain_code(
         tone_1,
@@ -144,11 +143,11 @@ pub fn tick(chip: Mos6581) -> Ticked
     if control_1.couples() {
         noise::couple(&mut charge_1, code_1);
     }
-    if control_1.pulls_down(noise_1, cycle_1) {
-        noise_1 = noise_1.pull_down_lent(code_1, cycle_1, &mut captured_1, &mut charge_1);
+    if control_1.pulls_down(noise_1, cycle) {
+        noise_1 = noise_1.pull_down_lent(code_1, cycle, &mut captured_1, &mut charge_1);
     }
-    if control_2.sample_due(floating_2, cycle_2) {
-        floating_2 = floating_2.sample_lent(cycle_2, &mut lines_2);
+    if control_2.sample_due(floating_2, cycle) {
+        floating_2 = floating_2.sample_lent(cycle, &mut lines_2);
     }
     let mut code_2 = control_2.plain_code(
         tone_2,
@@ -163,8 +162,8 @@ pub fn tick(chip: Mos6581) -> Ticked
     if control_2.couples() {
         noise::couple(&mut charge_2, code_2);
     }
-    if control_2.pulls_down(noise_2, cycle_2) {
-        noise_2 = noise_2.pull_down_lent(code_2, cycle_2, &mut captured_2, &mut charge_2);
+    if control_2.pulls_down(noise_2, cycle) {
+        noise_2 = noise_2.pull_down_lent(code_2, cycle, &mut captured_2, &mut charge_2);
     }
     // synchronisation
     let next_1 = sid::synced(tone_1, control_1, tone_0, control_0, tone_2);
@@ -236,6 +235,7 @@ pub fn tick(chip: Mos6581) -> Ticked
         data_bus,
         pot_x: chip.pot_x,
         pot_y: chip.pot_y,
+        cycle,
     };
     Ticked {
         chip: after,

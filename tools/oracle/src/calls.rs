@@ -8,6 +8,9 @@
 //! `Tick` answers with a digest of the outputs after each clock; `Watch` reads after each clock,
 //! and its digest has that byte, too; `Run` answers with the outputs after its last clock. `Code`,
 //! `Level` and `Held` answer for a voice, or give the refusal's number from bit 32 on and its place.
+//!
+//! The port has one cycle for the three voices. The original has three, and each record is made only
+//! where they agree and count the clocks since the chip was made or last reset.
 
 use crate::sid::sid::Mos6581;
 
@@ -54,6 +57,8 @@ pub struct Recorder {
     pub ticked: u64,
     /// Clocks of runs, whose outputs are recorded after the last.
     pub run: u64,
+    /// Clocks since the chip was made or last reset.
+    since: u64,
     clock_by_clock: bool,
 }
 
@@ -64,6 +69,7 @@ impl Recorder {
             records: Vec::new(),
             ticked: 0,
             run: 0,
+            since: 0,
             clock_by_clock: false,
         }
     }
@@ -74,6 +80,7 @@ impl Recorder {
         self.records.clear();
         self.ticked = 0;
         self.run = 0;
+        self.since = 0;
         self.clock_by_clock = clock_by_clock;
     }
 
@@ -88,10 +95,12 @@ impl Recorder {
         let (value, address, answer) = match call {
             New => {
                 chip.renew();
+                self.since = 0;
                 (0, 0, 0)
             }
             Reset => {
                 chip.reset();
+                self.since = 0;
                 (0, 0, 0)
             }
             WriteCall(address, value) => {
@@ -160,6 +169,7 @@ impl Recorder {
             }
             clocks += 1;
         }
+        self.since += u64::from(clocks);
         match pace {
             Pace::Run => self.run += u64::from(clocks),
             Pace::Tick | Pace::Watch(_) => self.ticked += u64::from(clocks),
@@ -173,6 +183,7 @@ impl Recorder {
     }
 
     fn record(&mut self, call: Call, value: u8, address: u16, clocks: u32, answer: u64) {
+        assert_eq!(self.chip.cycles(), [self.since; 3]);
         self.records.extend([number(call), value]);
         self.records.extend(address.to_le_bytes());
         self.records.extend(clocks.to_le_bytes());

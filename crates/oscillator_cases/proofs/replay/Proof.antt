@@ -6,10 +6,10 @@ use Rattle.oscillator_cases.proofs.replay.Statement.{statement}
 use Rattle.oscillator_cases.proofs.replay.Tie as tie
 
 abbrev Inv-loop : tie.InvT-loop
-Inv-loop calls states tally₀ o₀ rest₀ at₀ tally o rest at = at + rest * 15 ≤ length calls
+Inv-loop calls states tally₀ timed₀ rest₀ at₀ tally timed rest at = at + rest * 15 ≤ length calls
 
 abbrev μ-loop : tie.MeasureT-loop
-μ-loop calls states tally₀ o₀ rest₀ at₀ tally o rest at = rest
+μ-loop calls states tally₀ timed₀ rest₀ at₀ tally timed rest at = rest
 
 pub replay-spec : {M : Type 1} → statement M
 replay-spec =

@@ -4,10 +4,10 @@ use Rattle.oscillator_cases.proofs.run.Statement.{statement}
 use Rattle.oscillator_cases.proofs.run.Tie as tie
 
 abbrev Inv-loop : tie.InvT-loop
-Inv-loop clocks oscillator₀ left₀ oscillator left = Unit
+Inv-loop clocks timed₀ left₀ timed left = Unit
 
 abbrev μ-loop : tie.MeasureT-loop
-μ-loop clocks oscillator₀ left₀ oscillator left = left
+μ-loop clocks timed₀ left₀ timed left = left
 
 pub run-spec : {M : Type 1} → statement M
 run-spec =

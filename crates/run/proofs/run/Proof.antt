@@ -1,10 +1,10 @@
 -- `run` is the chip after exactly n ticks.
 -- The parts that the loop holds are, packed, the chip after i ticks. Its body is `tick`'s, with the same names for
 -- its places. Assumes nothing.
-use Rattle.sid.proofs.Ticks.{same-generator, same-lines}
+use Rattle.sid.proofs.Ticks.{whole, same-generator, same-lines}
 use Rattle.oscillator.specs.Ways.{afresh}
 use Rattle.oscillator.proofs.Due.{afresh-still}
-use Rattle.sid.proofs.Turn.{fades, empty, parts, whole, turn, round, ran}
+use Rattle.sid.proofs.Turn.{fades, empty, parts, turn, round, ran}
 use Rattle.laws.proofs.After.{taken, left}
 use Rattle.sid.specs.Sid.{ticked, ticks}
 use Rattle.sid.specs.declared.Voice.{Voice}
@@ -20,15 +20,15 @@ use Rattle.run.proofs.run.Statement.{statement}
 use Rattle.run.proofs.run.Tie as tie
 
 abbrev Inv-loop : tie.InvT-loop
-Inv-loop c n _ k0 _ _ _ _ _ _ _ k1 _ _ _ _ _ _ _ k2 _ _ _ _ _ _ _ _ b t0 n0 h0 q0 f0 w0 e0 t1 n1 h1 q1 f1 w1 e1 t2 n2 h2 q2 f2 w2 e2 i =
+Inv-loop c n _ _ k0 _ _ _ _ _ _ _ k1 _ _ _ _ _ _ _ k2 _ _ _ _ _ _ _ _ b z t0 n0 h0 q0 f0 w0 e0 t1 n1 h1 q1 f1 w1 e1 t2 n2 h2 q2 f2 w2 e2 i =
     (i ≤ n)
     × (n < 2 ^ 64)
-    × (whole b (c .«pot_x») (c .«pot_y»)
+    × (whole b (c .«pot_x») (c .«pot_y») z
     (parts k0 t0 n0 h0 q0 f0 w0 e0) (parts k1 t1 n1 h1 q1 f1 w1 e1) (parts k2 t2 n2 h2 q2 f2 w2 e2)
     ≡ ticks i c)
 
 abbrev μ-loop : tie.MeasureT-loop
-μ-loop _ n _ _ _ _ _ _ _ _ _ _ _ _ _ _ _ _ _ _ _ _ _ _ _ _ _ _ _ _ _ _ _ _ _ _ _ _ _ _ _ _ _ _ _ _ _ _ _ _ i = n - i
+μ-loop _ n _ _ _ _ _ _ _ _ _ _ _ _ _ _ _ _ _ _ _ _ _ _ _ _ _ _ _ _ _ _ _ _ _ _ _ _ _ _ _ _ _ _ _ _ _ _ _ _ _ _ i = n - i
 
 -- where a turn of the loop begins
 abbrev head : tie.After-synced3 Inv-loop μ-loop → tie.In-loop Inv-loop μ-loop
@@ -37,8 +37,8 @@ head c =
     let voice-0 = voice-1 .before .before .before .before .before .before .before .before .before .before in
     let rests = voice-0 .before .before .before .before .before .before .before .before .before .before in
     let steps = rests .before .before .before .before .before .before in
-    let bus = steps .before .before .before .before .before .before .before .before .before .before .before .before in
-    bus .before .before
+    let cycle = steps .before .before .before .before .before .before .before .before .before .before .before .before in
+    cycle .before .before .before
 
 loop-holds : tie.Need-loop-holds Inv-loop μ-loop
 unfolding times
@@ -71,7 +71,8 @@ loop-again c =
     let steps-2 = rests-0 .before .before in
     let steps-1 = steps-2 .before .before .before .before in
     let steps-0 = steps-1 .before .before .before .before in
-    let bus = steps-0 .before .before .before .before in
+    let cycle = steps-0 .before .before .before .before in
+    let bus = cycle .before in
     let l = bus .before .before .before .loop in
     let start : Mos6581 =
     bus .before .before .before .before .before .before .before .before .before .before .before .before .before .before .before
@@ -86,7 +87,7 @@ loop-again c =
     parts (start .«voice_2» .oscillator .control) (l .tone-2) (l .noise-2) (l .captured-2) (l .charge-2)
     (l .floating-2) (l .lines-2) (l .envelope-2) in
     let voice-0 =
-    turn afresh-still from-0 _
+    turn afresh-still from-0 _ _
     (steps-0 .before .before .before .clocked .ensures) (steps-0 .before .before .rising .ensures)
     (steps-0 .before .step-due .ensures)
     (⊎-elim (λ w. taken (w .0 .taken) (same-generator (w .4) (w .5) (w .6) ∙ w .3 .ensures))
@@ -104,7 +105,7 @@ loop-again c =
     (⊎-elim (λ w. taken (w .0 .taken) (same-generator (w .4) (w .5) (w .6) ∙ w .3 .ensures))
     (λ w. left (w .0 .left) (same-generator (w .1) (w .2) (w .3))) (pulls-0 .if11 .came)) in
     let voice-1 =
-    turn afresh-still from-1 _
+    turn afresh-still from-1 _ _
     (steps-1 .before .before .before .clocked2 .ensures) (steps-1 .before .before .rising2 .ensures)
     (steps-1 .before .step-due2 .ensures)
     (⊎-elim (λ w. taken (w .0 .taken) (same-generator (w .4) (w .5) (w .6) ∙ w .3 .ensures))
@@ -122,7 +123,7 @@ loop-again c =
     (⊎-elim (λ w. taken (w .0 .taken) (same-generator (w .4) (w .5) (w .6) ∙ w .3 .ensures))
     (λ w. left (w .0 .left) (same-generator (w .1) (w .2) (w .3))) (pulls-1 .if15 .came)) in
     let voice-2 =
-    turn afresh-still from-2 _
+    turn afresh-still from-2 _ _
     (steps-2 .before .before .before .clocked3 .ensures) (steps-2 .before .before .rising3 .ensures)
     (steps-2 .before .step-due3 .ensures)
     (⊎-elim (λ w. taken (w .0 .taken) (same-generator (w .4) (w .5) (w .6) ∙ w .3 .ensures))
@@ -142,9 +143,9 @@ loop-again c =
       omega (arith, bus .before .before .loop-test .taken),
       l .inv .1,
       rw add-one (
-          round afresh from-0 from-1 from-2
+          round afresh (l .cycle) from-0 from-1 from-2
           (⊎-elim (λ w. fades (w .2 ∙ w .1 .ensures)) (λ w. empty (w .0 .left) (w .1)) (bus .if1 .came))
-          voice-0 voice-1 voice-2 (steps-2 .before .before .before .clocked3 .ensures)
+          (cycle .wrapping-add-u64 .ensures) voice-0 voice-1 voice-2 (steps-2 .before .before .before .clocked3 .ensures)
           (c .synced3 .ensures) (c .before .before .synced .ensures) (c .before .synced2 .ensures)
           ∙ ap ticked (l .inv .2)),
     )
@@ -159,6 +160,7 @@ run-spec =
     Inv-loop
     μ-loop
     loop-holds
+    (λ c κs. search needs)
     (λ c κs. search needs)
     (λ c κs. search needs)
     (λ c κs. search needs)

@@ -90,7 +90,11 @@ impl Oscillator {
         }
     }
 
-    /// The 12-bit phase, which the original keeps to itself.
+    /// The cycle and the 12-bit phase, which the original keeps to itself.
+    pub fn cycle_shown(&self) -> u64 {
+        self.cycle
+    }
+
     pub fn phase_shown(&self) -> u16 {
         self.phase()
     }

@@ -1,7 +1,12 @@
-/// Beside the original chip: its bus, and the chip made new without its tables, which never change.
+/// Beside the original chip: its bus, its oscillators' cycles, and the chip made new without its
+/// tables, which never change.
 impl Mos6581 {
     pub fn bus(&self) -> &InternalDataBus {
         &self.data_bus
+    }
+
+    pub fn cycles(&self) -> [u64; 3] {
+        std::array::from_fn(|voice| self.oscillators[voice].cycle_shown())
     }
 
     pub fn renew(&mut self) {

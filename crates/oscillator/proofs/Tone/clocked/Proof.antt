@@ -6,23 +6,23 @@ use mathlib.Core.Path.{_∙_, _≡_}
 use lib.Bits.{and-mask, bitAnd}
 use lib.Dec.{eqb}
 use Rattle.laws.proofs.Masks.{and-bit}
-use Rattle.oscillator.specs.Oscillator.{clockedTone, rising}
+use Rattle.oscillator.specs.Oscillator.{clockedTone, resetPhase, rising}
 use Rattle.oscillator.proofs.Tone.clocked.Statement.{statement}
 use Rattle.oscillator.proofs.Tone.clocked.Tie as tie
 
 returns : tie.Need-returns
-unfolding clockedTone
-returns c = simp (c .if1 .taken, c .before .wrapping-add-u64 .ensures)
+unfolding clockedTone resetPhase
+returns c = simp (c .before .if1 .taken, c .reset-phase .ensures)
 
 returns-2 : tie.Need-returns-2
 unfolding clockedTone
 returns-2 c =
-    let a = c .before .before .before .before .before .args in
+    let a = c .before .before .before .before .args in
     let n = (a .self .accumulator + a .control .frequency) % 2 ^ 24 in
     let e : bitAnd (c .before .wrapping-add-u32 .result) 0xffffff ≡ n = and-mask (c .before .wrapping-add-u32 .result) 24 ∙ omega arith in
     let x = rising (a .self .accumulator) n in
     let b : eqb (bitAnd x 0x800000) 0 ≡ eqb (x / 2 ^ 23 % 2) 0 = and-bit x 23 in
-    simp (c .before .before .before .if1 .left, c .rising .ensures, e, b, c .before .before .before .before .wrapping-add-u64 .ensures)
+    simp (c .before .before .before .if1 .left, c .rising .ensures, e, b)
 
 pub clocked-spec : {M : Type 1} → statement M
 clocked-spec =
