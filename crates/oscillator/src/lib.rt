@@ -25,19 +25,20 @@ pub struct Control {
     pub test_enabled: bool,
 }
 
+// These two are laid out for speed (docs/PERFORMANCE.md).
 pub struct Tone {
     pub accumulator: u32,
     pub msb_rising: bool,
-    pub last_sample: u16,
-    pub pulse_output: u16,
     pub readback: u16,
+    pub pulse_output: u16,
+    pub last_sample: u16,
 }
 
 pub struct Oscillator {
     pub control: Control,
-    pub tone: Tone,
     pub noise: NoiseGenerator,
     pub bus: FloatingBus,
+    pub tone: Tone,
 }
 
 pub struct Evaluated {
