@@ -1,4 +1,5 @@
--- What a reset keeps; and the cycle of a chip after any calls: the ticks since it was made or last reset. Assumes nothing.
+-- What a reset keeps; and that a chip's cycle counts the ticks since it was made or last reset, for any run of calls.
+-- Assumes nothing.
 use mathlib.Core.Path.{_≡_, refl, _∙_}
 use mathlib.Core.List.{List, [], _∷_}
 use Prim.Native.Nat.{ℕ, suc, _%_, _^_}
@@ -22,8 +23,7 @@ reset-keeps voice-0 c = (refl, refl, refl, refl, refl)
 reset-keeps voice-1 c = (refl, refl, refl, refl, refl)
 reset-keeps voice-2 c = (refl, refl, refl, refl, refl)
 
--- THE CYCLE COUNTS: 'the number of ticks since it was made or last reset, modulo 2^64', after any calls; `fresh` makes a
--- chip, `reset` resets it
+-- THE CYCLE COUNTS ticks, modulo 2^64, after any calls: from a chip that has counted n, one just made, one just reset
 pub cycle-counts : (calls : List Call) (c : Mos6581) (n : ℕ) → c .cycle ≡ n % 2 ^ 64 → after calls c .cycle ≡ clocksSince calls n % 2 ^ 64
 unfolding after called clocksSince reset
 cycle-counts [] c n e = e

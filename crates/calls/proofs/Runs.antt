@@ -3,14 +3,17 @@
 use mathlib.Core.Path.{_≡_, refl, ap, subst, _∙_}
 use mathlib.Core.Bool.{Bool, true}
 use mathlib.Core.List.{List, [], _∷_, _++_}
-use Prim.Native.Nat.{ℕ, zero, suc, _+_, _≤_}
+use Prim.Native.Nat.{ℕ, zero, suc, _+_, _%_, _^_, _≤_}
 use native.Mathlib.Omega.{arith}
+use Rattle.laws.specs.Times.{times}
 use Rattle.bus.specs.Bus.{holds, kept}
 use Rattle.envelope.specs.Envelope.{clocks as Envelope·clocks}
+use Rattle.oscillator.specs.Ways.{afresh}
 use Rattle.sid.specs.Sid.{readAt, ticks, codeOf, Call, write, read, tick, clear, potX, potY, after, ticksThen, clocksOf}
 use Rattle.sid.specs.declared.Mos6581.{Mos6581}
 use Rattle.sid.proofs.Joined.{after-join, after-ticks, count-ticks}
 use Rattle.calls.specs.Calls.{Which, of, Each, none, next, spares, floating, undriven, leavesOff, Leads, Fades, Floats}
+use Rattle.calls.proofs.Voices.{tick-cycle}
 use Rattle.calls.proofs.Lifted.{envelope-after}
 
 clocks-join : (calls more : List Call) → clocksOf (calls ++ more) ≡ clocksOf calls + clocksOf more
@@ -71,6 +74,12 @@ unfolding spares
 run-envelope w n c =
     run-calls (run-leads {allows = spares w} n c refl) (λ (x : Mos6581). of w x .envelope ≡ Envelope·clocks n (of w c .envelope))
     (λ calls r q. envelope-after w calls c r ∙ ap (λ (m : ℕ). Envelope·clocks m (of w c .envelope)) q)
+
+-- its cycle has counted them
+pub run-cycle : (n : ℕ) (c : Mos6581) (k : ℕ) → c .cycle ≡ k % 2 ^ 64 → ticks n c .cycle ≡ (k + n) % 2 ^ 64
+unfolding times
+run-cycle zero c k e = e ∙ omega arith
+run-cycle (suc n) c k e = tick-cycle afresh (ticks n c) ∙ omega (arith, run-cycle n c k e)
 
 -- a byte has faded for n clocks
 pub run-fades : (v : ℕ) (c : Mos6581) (n address : ℕ) → Fades v c → floating address ≡ true → readAt (ticks n c) address .byte ≡ kept holds v n

@@ -7,7 +7,7 @@
 -- Latched: the code, OSC3 and ENV3 (`code-after-tick`, `read-osc3-after-tick`, `read-env3-after-tick`).
 -- Sound: facts that every call keeps (`call-sound`, `sound-fresh`).
 -- Kept: the cycle counts ticks (`cycle-counts`), and what a reset keeps (`reset-keeps`).
--- Runs: `run` among calls (`run-leads`, `run-calls`), and after it an envelope, the byte and a floating code.
+-- Runs: `run` among calls (`run-leads`, `run-calls`), and after it an envelope, the cycle, the byte, a floating code.
 use Prim.Native.Nat.{ℕ, suc, _+_, _-_, _/_, _%_, _^_, _<_, _≤_}
 use mathlib.Core.Path.{_≡_}
 use mathlib.Core.Bool.{Bool, true, false, not, _&&_, _||_}
