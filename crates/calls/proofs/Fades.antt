@@ -12,8 +12,8 @@ use Rattle.bus.specs.Bus.{holds, nextExpiry, fresh as Bus·fresh, driven, clock
 use Rattle.bus.specs.declared.InternalDataBus.{InternalDataBus}
 use Rattle.bus.proofs.Fade.{byte-fades}
 use Rattle.bus.proofs.Kept.{kept-le}
-use Rattle.oscillator.specs.Ways.{afresh}
-use Rattle.sid.specs.Sid.{register, reset, writtenTo, written, withBus, readAt, Call, write, read, tick, clear, potX, potY, called, after, clocksOf}
+use Rattle.oscillator.specs.Ways.{stepwise}
+use Rattle.sid.specs.Sid.{register, reset, writtenTo, written, withBus, readAt, Call, write, read, tick, clear, potX, potY, calledBy, called, afterBy, after, clocksOf}
 use Rattle.sid.specs.declared.Mos6581.{Mos6581}
 use Rattle.sid.specs.declared.Read.{Read}
 use Rattle.calls.specs.Calls.{Each, none, next, floating, Unvoiced, undriven, Fades}
@@ -21,7 +21,7 @@ use Rattle.calls.proofs.Voices.{tick-bus, read-floats, read-drives}
 
 -- a bus that nothing drives sees the ticks alone
 pub bus-after : (calls : List Call) (c : Mos6581) → Each undriven calls → after calls c .«data_bus» ≡ Bus·clocks (clocksOf calls) (c .«data_bus»)
-unfolding after clocksOf called undriven times
+unfolding afterBy clocksOf calledBy undriven times
 bus-after [] c none = refl
 bus-after (write address value ∷ calls) c (next h r) =
     ap (λ (t : Bool). cond t (Bus·clocks (clocksOf calls) (c .«data_bus»)) (after calls (called (write address value) c) .«data_bus»)) h
@@ -29,7 +29,7 @@ bus-after (read address ∷ calls) c (next h r) =
     bus-after calls (called (read address) c) r ∙ ap (λ (x : Read). Bus·clocks (clocksOf calls) (x .chip .«data_bus»)) (read-floats c address h)
 bus-after (tick ∷ calls) c (next h r) =
     bus-after calls (called tick c) r
-    ∙ ap (Bus·clocks (clocksOf calls)) (tick-bus afresh c)
+    ∙ ap (Bus·clocks (clocksOf calls)) (tick-bus stepwise c)
     ∙ sym (times-first Bus·clocked (clocksOf calls) (c .«data_bus»))
 bus-after (clear ∷ calls) c (next h r) =
     ap (λ (t : Bool). cond t (Bus·clocks (clocksOf calls) (c .«data_bus»)) (after calls (called clear c) .«data_bus»)) h

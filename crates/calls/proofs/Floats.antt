@@ -10,20 +10,24 @@ use borrow.Author.Tests.{eq-eqb, eqb-true, eqb-false}
 use Rattle.laws.specs.Cycle.{after as Cycle·after}
 use Rattle.laws.proofs.Bools.{implies}
 use Rattle.laws.proofs.Cond.{by-test}
-use Rattle.floating.specs.Floating.{captured, sampled, samples}
+use Rattle.floating.specs.Floating.{captured, sampledOnce, samplesBy}
 use Rattle.floating.specs.declared.FloatingBus.{FloatingBus}
-use Rattle.floating.proofs.Fade.{sampled-empty, lines-whole, lines-gone}
+use Rattle.floating.proofs.Fade.{lines-whole, lines-gone}
+use Rattle.floating.proofs.Once.{once-itself, leak-empty}
 use Rattle.oscillator.specs.Oscillator.{writtenControl, writtenBus, resetPhase, written as Oscillator·written, synchronised as Oscillator·synchronised, tickedBy as Oscillator·tickedBy}
 use Rattle.oscillator.specs.declared.Control.{Control}
 use Rattle.oscillator.specs.declared.Oscillator.{Oscillator}
 use Rattle.oscillator.proofs.Floats.{tick-control, tick-lines, tick-floats, write-captures}
-use Rattle.oscillator.specs.Ways.{afresh}
-use Rattle.sid.specs.Sid.{fresh, register, writtenOscillator, writtenVoice, writtenTo, written, readAt, clockedVoice, clockedVoiceBy, nextCycle, voiced, voicedBy, synchronisedIf, ticked, codeOf, Call, write, read, tick, clear, potX, potY, called, after, clocksOf}
+use Rattle.oscillator.specs.Ways.{stepwise}
+use Rattle.sid.specs.Sid.{fresh, register, writtenOscillator, writtenVoice, writtenTo, written, readAt, clockedVoice, clockedVoiceBy, nextCycle, voiced, voicedBy, synchronisedIf, ticked, codeOf, Call, write, read, tick, clear, potX, potY, calledBy, afterBy, after, clocksOf}
 use Rattle.sid.specs.declared.Voice.{Voice}
 use Rattle.sid.specs.declared.Mos6581.{Mos6581}
 use Rattle.calls.specs.Calls.{Which, voice-0, voice-1, voice-2, number, of, controlOf, waveformOf, Each, none, next, leavesOff, Latched, Captures, Floats}
 use Rattle.calls.proofs.Voices.{Face, tick-voice, tick-cycle, read-voice, read-cycle, pot-x-voice, pot-y-voice, write-voice, write-cycle, write-oscillator, write-face}
 use Rattle.calls.proofs.Latched.{latched-after, latched-fresh, read-osc3}
+
+abbrev samples : ℕ → FloatingBus → ℕ → FloatingBus
+samples = samplesBy sampledOnce
 
 -- a voice with waveform 0 selected, that gives what its lines show
 record Drifts (v : Voice) (b : FloatingBus) : Type 0 where
@@ -36,16 +40,16 @@ record Drifts (v : Voice) (b : FloatingBus) : Type 0 where
 voice-drifts
     : (v : Voice) (modulator cycle : ℕ) (b : FloatingBus)
     → Drifts v b
-    → Drifts (voiced (clockedVoice v cycle) modulator cycle) (sampled b cycle)
+    → Drifts (voiced (clockedVoice v cycle) modulator cycle) (sampledOnce b cycle)
 unfolding voicedBy clockedVoiceBy Oscillator·tickedBy
 voice-drifts v modulator cycle b d =
     let o = v .oscillator in
     let none : o .control .waveform % 16 ≡ 0 = ap (λ (x : ℕ). x % 16) (d .off) in
-    let at = ap (λ (x : FloatingBus). sampled x cycle) (d .lines) in
+    let at = ap (λ (x : FloatingBus). sampledOnce x cycle) (d .lines) in
     record {
-      off = ap (λ (k : Control). k .waveform) (tick-control afresh o modulator cycle) ∙ d .off;
-      lines = tick-lines afresh o modulator cycle none ∙ at;
-      code = tick-floats afresh o modulator cycle none ∙ ap (λ (x : FloatingBus). x .numbers .value % 4096) at;
+      off = ap (λ (k : Control). k .waveform) (tick-control stepwise o modulator cycle) ∙ d .off;
+      lines = tick-lines stepwise o modulator cycle none ∙ at;
+      code = tick-floats stepwise o modulator cycle none ∙ ap (λ (x : FloatingBus). x .numbers .value % 4096) at;
     }
 
 sync-drifts : (taken : Bool) (v : Voice) (b : FloatingBus) → Drifts v b → Drifts (synchronisedIf taken v) b
@@ -53,10 +57,10 @@ unfolding synchronisedIf Oscillator·synchronised resetPhase
 sync-drifts true v b d = record { off = d .off; lines = d .lines; code = d .code }
 sync-drifts false v b d = d
 
-tick-drifts : (w : Which) (c : Mos6581) (b : FloatingBus) → Drifts (of w c) b → Drifts (of w (ticked c)) (sampled b (nextCycle c))
+tick-drifts : (w : Which) (c : Mos6581) (b : FloatingBus) → Drifts (of w c) b → Drifts (of w (ticked c)) (sampledOnce b (nextCycle c))
 tick-drifts w c b d =
-    let t = tick-voice afresh w c in
-    subst (λ (u : Voice). Drifts u (sampled b (nextCycle c))) (sym (t .same))
+    let t = tick-voice stepwise w c in
+    subst (λ (u : Voice). Drifts u (sampledOnce b (nextCycle c))) (sym (t .same))
     (sync-drifts (t .taken) _ _ (voice-drifts (of w c) (t .modulator) (nextCycle c) b d))
 
 -- ---- a write that selects no waveform leaves selection and lines
@@ -114,10 +118,10 @@ write-drifts w c address value b h d =
 
 -- ---- any calls that leave it so sample the lines once a tick
 
-samples-first : (n : ℕ) (b : FloatingBus) (cycle : ℕ) → samples (suc n) b cycle ≡ samples n (sampled b (Cycle·after cycle 1)) (Cycle·after cycle 1)
-unfolding samples
+samples-first : (n : ℕ) (b : FloatingBus) (cycle : ℕ) → samples (suc n) b cycle ≡ samples n (sampledOnce b (Cycle·after cycle 1)) (Cycle·after cycle 1)
+unfolding samplesBy
 samples-first zero b cycle = refl
-samples-first (suc n) b cycle = ap₂ sampled (samples-first n b cycle) (omega arith)
+samples-first (suc n) b cycle = ap₂ sampledOnce (samples-first n b cycle) (omega arith)
 
 code-drifts
     : (w : Which) (calls : List Call) (c : Mos6581) (b : FloatingBus) (cycle : ℕ)
@@ -125,15 +129,15 @@ code-drifts
     → c .cycle ≡ cycle
     → Drifts (of w c) b
     → codeOf (of w (after calls c)) ≡ samples (clocksOf calls) b cycle .numbers .value % 4096
-unfolding after called clocksOf leavesOff samples
+unfolding afterBy calledBy clocksOf leavesOff samplesBy
 code-drifts w [] c b cycle none e d = d .code
 code-drifts w (write address value ∷ calls) c b cycle (next h r) e d =
     code-drifts w calls _ b cycle r (write-cycle c address value ∙ e) (write-drifts w c address value b h d)
 code-drifts w (read address ∷ calls) c b cycle (next h r) e d =
     code-drifts w calls _ b cycle r (read-cycle c address ∙ e) (subst (λ (u : Voice). Drifts u b) (sym (read-voice w c address)) d)
 code-drifts w (tick ∷ calls) c b cycle (next h r) e d =
-    code-drifts w calls _ _ _ r (tick-cycle afresh c) (tick-drifts w c b d)
-    ∙ ap (λ (n : ℕ). samples (clocksOf calls) (sampled b (Cycle·after n 1)) (Cycle·after n 1) .numbers .value % 4096) e
+    code-drifts w calls _ _ _ r (tick-cycle stepwise c) (tick-drifts w c b d)
+    ∙ ap (λ (n : ℕ). samples (clocksOf calls) (sampledOnce b (Cycle·after n 1)) (Cycle·after n 1) .numbers .value % 4096) e
     ∙ ap (λ (x : FloatingBus). x .numbers .value % 4096) (sym (samples-first (clocksOf calls) b cycle))
 code-drifts w (clear ∷ calls) c b cycle (next h r) e d = absurd (false≢true h)
 code-drifts w (potX value ∷ calls) c b cycle (next h r) e d =
@@ -168,11 +172,11 @@ starts w c address value l h =
     }
 
 samples-empty : (n : ℕ) (b : FloatingBus) (cycle : ℕ) → b .numbers .value ≡ 0 → samples n b cycle .numbers .value ≡ 0
-unfolding samples
+unfolding samplesBy
 samples-empty zero b cycle e = e
 samples-empty (suc n) b cycle e =
     let z = samples-empty n b cycle e in
-    ap (λ (x : FloatingBus). x .numbers .value) (sampled-empty (samples n b cycle) (Cycle·after cycle (suc n)) z) ∙ z
+    ap (λ (x : FloatingBus). x .numbers .value) (leak-empty once-itself (samples n b cycle) (Cycle·after cycle (suc n)) z) ∙ z
 
 -- lines that took up nothing show nothing, and others what the law of the lines says
 module _ (code cycle : ℕ) (twelve : code < 4096) (early : cycle < 2 ^ 63) (n : ℕ) where
@@ -189,7 +193,7 @@ module _ (code cycle : ℕ) (twelve : code < 4096) (early : cycle < 2 ^ 63) (n :
           ap (λ (x : ℕ). x % 4096) (captured-empty z) ∙ sym z
       go false e =
           let some : (code ≡ 0) → ⊥ = eqb-false code 0 e in
-          ap (λ (x : ℕ). x % 4096) (lines-whole code cycle (λ z. some (omega arith)) early n h) ∙ omega arith
+          ap (λ (x : ℕ). x % 4096) (lines-whole once-itself code cycle (λ z. some (omega arith)) early n h) ∙ omega arith
 
   captured-gone : 1260020 ≤ n → samples n (captured code cycle) cycle .numbers .value % 4096 ≡ 0
   captured-gone h = go (eqb code 0) refl
@@ -198,7 +202,7 @@ module _ (code cycle : ℕ) (twelve : code < 4096) (early : cycle < 2 ^ 63) (n :
       go true e = ap (λ (x : ℕ). x % 4096) (captured-empty (eqb-true code 0 e))
       go false e =
           let some : (code ≡ 0) → ⊥ = eqb-false code 0 e in
-          ap (λ (x : ℕ). x % 4096) (lines-gone code cycle (λ z. some (omega arith)) early n h)
+          ap (λ (x : ℕ). x % 4096) (lines-gone once-itself code cycle (λ z. some (omega arith)) early n h)
 
 -- THE FLOATING LAW for any voice and any calls that leave waveform 0 selected
 pub chip-floats
@@ -232,7 +236,7 @@ pub read-osc3-floats
     → register from ≡ 0x1b
     → (clocksOf calls ≤ 1260019 → readAt (after calls (written c address value)) from .byte ≡ codeOf (of voice-2 c) / 2 ^ 4)
     × (1260020 ≤ clocksOf calls → readAt (after calls (written c address value)) from .byte ≡ 0)
-unfolding after called
+unfolding afterBy calledBy
 read-osc3-floats c address value l h calls from r e =
     let k = chip-floats voice-2 c address value l h in
     let shows = read-osc3 (after calls (written c address value)) from e (latched-after voice-2 (write address value ∷ calls) c l) in

@@ -6,8 +6,8 @@ use Prim.Native.Nat.{ℕ, suc, _%_, _^_}
 use native.Mathlib.Omega.{arith}
 use Rattle.envelope.specs.Envelope.{reset as Envelope·reset}
 use Rattle.oscillator.specs.Oscillator.{fresh as Oscillator·fresh}
-use Rattle.oscillator.specs.Ways.{afresh}
-use Rattle.sid.specs.Sid.{fresh, resetVoice, reset, Call, write, read, tick, clear, potX, potY, called, after}
+use Rattle.oscillator.specs.Ways.{stepwise}
+use Rattle.sid.specs.Sid.{fresh, resetVoice, reset, Call, write, read, tick, clear, potX, potY, calledBy, afterBy, after}
 use Rattle.sid.specs.declared.Mos6581.{Mos6581}
 use Rattle.calls.specs.Calls.{Which, voice-0, voice-1, voice-2, of, clocksSince}
 use Rattle.calls.proofs.Voices.{tick-cycle, read-cycle, write-cycle}
@@ -25,11 +25,11 @@ reset-keeps voice-2 c = (refl, refl, refl, refl, refl)
 
 -- THE CYCLE COUNTS ticks, modulo 2^64, after any calls: from a chip that has counted n, one just made, one just reset
 pub cycle-counts : (calls : List Call) (c : Mos6581) (n : ℕ) → c .cycle ≡ n % 2 ^ 64 → after calls c .cycle ≡ clocksSince calls n % 2 ^ 64
-unfolding after called clocksSince reset
+unfolding afterBy calledBy clocksSince reset
 cycle-counts [] c n e = e
 cycle-counts (write address value ∷ calls) c n e = cycle-counts calls _ n (write-cycle c address value ∙ e)
 cycle-counts (read address ∷ calls) c n e = cycle-counts calls _ n (read-cycle c address ∙ e)
-cycle-counts (tick ∷ calls) c n e = cycle-counts calls _ (suc n) (tick-cycle afresh c ∙ omega (arith, e))
+cycle-counts (tick ∷ calls) c n e = cycle-counts calls _ (suc n) (tick-cycle stepwise c ∙ omega (arith, e))
 cycle-counts (clear ∷ calls) c n e = cycle-counts calls _ 0 refl
 cycle-counts (potX value ∷ calls) c n e = cycle-counts calls _ n e
 cycle-counts (potY value ∷ calls) c n e = cycle-counts calls _ n e

@@ -9,8 +9,8 @@ use Rattle.envelope.specs.Envelope.{fresh as Envelope·fresh, reset as Envelope
 use Rattle.envelope.specs.declared.Envelope.{Envelope}
 use Rattle.envelope.proofs.Readback.{clock-reads}
 use Rattle.oscillator.specs.Oscillator.{fresh as Oscillator·fresh, latchedTone, latchedCode, resetPhase, synchronised as Oscillator·synchronised, voicedBy as Oscillator·voicedBy}
-use Rattle.oscillator.specs.Ways.{afresh}
-use Rattle.sid.specs.Sid.{register, fresh, resetVoice, readDriven, readAt, writtenVoice, clockedVoice, nextCycle, voiced, voicedBy, synchronisedIf, ticked, codeOf, levelOf, Call, write, read, tick, clear, potX, potY, called, after}
+use Rattle.oscillator.specs.Ways.{stepwise}
+use Rattle.sid.specs.Sid.{register, fresh, resetVoice, readDriven, readAt, writtenVoice, clockedVoice, nextCycle, voiced, voicedBy, synchronisedIf, ticked, codeOf, levelOf, Call, write, read, tick, clear, potX, potY, calledBy, called, afterBy, after}
 use Rattle.sid.proofs.Joined.{after-join}
 use Rattle.sid.specs.declared.Voice.{Voice}
 use Rattle.sid.specs.declared.Mos6581.{Mos6581}
@@ -36,7 +36,7 @@ last-of (call ∷ calls) = last-next call (last-of calls)
 
 -- calls without tick and reset leave what a voice shows
 idle-face : (w : Which) (calls : List Call) (c : Mos6581) → Each idle calls → face (of w (after calls c)) ≡ face (of w c)
-unfolding after called idle
+unfolding afterBy calledBy idle
 idle-face w [] c none = refl
 idle-face w (write address value ∷ calls) c (next h r) = idle-face w calls _ r ∙ write-face w c address value
 idle-face w (read address ∷ calls) c (next h r) = idle-face w calls _ r ∙ ap face (read-voice w c address)
@@ -47,8 +47,8 @@ idle-face w (potY value ∷ calls) c (next h r) = idle-face w calls _ r ∙ ap f
 
 -- so it shows what the last tick or reset left
 last-face : (w : Which) (calls : List Call) (call : Call) (more : List Call) (c : Mos6581) → Each idle more → face (of w (after (calls ++ (call ∷ more)) c)) ≡ face (of w (called call (after calls c)))
-unfolding after
-last-face w calls call more c r = ap (λ (x : Mos6581). face (of w x)) (after-join calls (call ∷ more) c) ∙ idle-face w more (called call (after calls c)) r
+unfolding afterBy
+last-face w calls call more c r = ap (λ (x : Mos6581). face (of w x)) (after-join stepwise calls (call ∷ more) c) ∙ idle-face w more (called call (after calls c)) r
 
 -- ---- 'its code (the last latched; fresh or reset 0)'
 
@@ -65,11 +65,11 @@ pub code-after-tick
     : (w : Which) (calls more : List Call) (c : Mos6581)
     → Each idle more
     → codeOf (of w (after (calls ++ (tick ∷ more)) c)) ≡ codeOf (of w (ticked (after calls c)))
-unfolding called
+unfolding calledBy
 code-after-tick w calls more c r = ap (λ (f : Face). f .code) (last-face w calls tick more c r)
 
 pub code-after-reset : (w : Which) (calls more : List Call) (c : Mos6581) → Each idle more → codeOf (of w (after (calls ++ (clear ∷ more)) c)) ≡ 0
-unfolding called resetVoice Oscillator·fresh
+unfolding calledBy resetVoice Oscillator·fresh
 code-after-reset w calls more c r = ap (λ (f : Face). f .code) (last-face w calls clear more c r) ∙ ap codeOf (reset-voice w (after calls c))
 
 pub code-while-fresh : (w : Which) (calls : List Call) → Each idle calls → codeOf (of w (after calls fresh)) ≡ 0
@@ -85,7 +85,7 @@ voice-latched v modulator cycle false = record { shown = refl; twelve = omega ar
 
 pub tick-latched : (w : Which) (c : Mos6581) → Latched (of w (ticked c))
 tick-latched w c =
-    let t = tick-voice afresh w c in
+    let t = tick-voice stepwise w c in
     subst Latched (sym (t .same)) (voice-latched (of w c) (t .modulator) (nextCycle c) (t .taken))
 
 pub fresh-latched : (accumulator : ℕ) (e : Envelope) → Latched (record { oscillator = Oscillator·fresh accumulator; envelope = e })
@@ -124,7 +124,7 @@ pub read-osc3-after-tick
     → Each idle more
     → register address ≡ 0x1b
     → readAt (after (calls ++ (tick ∷ more)) c) address .byte ≡ codeOf (of voice-2 (ticked (after calls c))) / 2 ^ 4
-unfolding called
+unfolding calledBy
 read-osc3-after-tick calls more c address r e =
     let f = last-face voice-2 calls tick more c r in
     read-osc3 (after (calls ++ (tick ∷ more)) c) address e (face-latched _ _ f (tick-latched voice-2 (after calls c)))
@@ -141,11 +141,11 @@ pub read-env3-after-tick
     → Each idle more
     → register address ≡ 0x1c
     → readAt (after (calls ++ (tick ∷ more)) c) address .byte ≡ levelOf (of voice-2 (after calls c))
-unfolding called
+unfolding calledBy
 read-env3-after-tick calls more c address r e =
     read-env3 (after (calls ++ (tick ∷ more)) c) address e
     ∙ ap (λ (f : Face). f .env) (last-face voice-2 calls tick more c r)
-    ∙ ap (λ (x : Envelope). x .readback) (tick-envelope afresh voice-2 (after calls c))
+    ∙ ap (λ (x : Envelope). x .readback) (tick-envelope stepwise voice-2 (after calls c))
     ∙ clock-reads (of voice-2 (after calls c) .envelope)
 
 pub read-env3-after-reset
@@ -153,7 +153,7 @@ pub read-env3-after-reset
     → Each idle more
     → register address ≡ 0x1c
     → readAt (after (calls ++ (clear ∷ more)) c) address .byte ≡ levelOf (of voice-2 (after calls c))
-unfolding called resetVoice Envelope·reset
+unfolding calledBy resetVoice Envelope·reset
 read-env3-after-reset calls more c address r e =
     read-env3 (after (calls ++ (clear ∷ more)) c) address e
     ∙ ap (λ (f : Face). f .env) (last-face voice-2 calls clear more c r)

@@ -2,6 +2,7 @@ pub mod Fades
 pub mod Floats
 pub mod Kept
 pub mod Latched
+pub mod Leaks
 pub mod Lifted
 pub mod Runs
 pub mod Sound

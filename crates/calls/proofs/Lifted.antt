@@ -12,8 +12,8 @@ use Rattle.release.specs.Release.{Settled}
 use Rattle.release.specs.Sustain.{SteadyRise}
 use Rattle.release.proofs.Demand3.{demand-3}
 use Rattle.release.proofs.Sustain.{sustain-holds}
-use Rattle.oscillator.specs.Ways.{afresh}
-use Rattle.sid.specs.Sid.{ticked, levelOf, Call, write, read, tick, clear, potX, potY, called, after, clocksOf}
+use Rattle.oscillator.specs.Ways.{stepwise}
+use Rattle.sid.specs.Sid.{ticked, levelOf, Call, write, read, tick, clear, potX, potY, calledBy, called, afterBy, after, clocksOf}
 use Rattle.sid.specs.declared.Voice.{Voice}
 use Rattle.sid.specs.declared.Mos6581.{Mos6581}
 use Rattle.calls.specs.Calls.{Which, of, Each, none, next, spares, ChipReleases}
@@ -24,7 +24,7 @@ pub envelope-after
     : (w : Which) (calls : List Call) (c : Mos6581)
     → Each (spares w) calls
     → of w (after calls c) .envelope ≡ Envelope·clocks (clocksOf calls) (of w c .envelope)
-unfolding after clocksOf called spares times
+unfolding afterBy clocksOf calledBy spares times
 envelope-after w [] c none = refl
 envelope-after w (write address value ∷ calls) c (next h r) =
     envelope-after w calls (called (write address value) c) r ∙ ap (Envelope·clocks (clocksOf calls)) (write-envelope w c address value h)
@@ -32,7 +32,7 @@ envelope-after w (read address ∷ calls) c (next h r) =
     envelope-after w calls (called (read address) c) r ∙ ap (λ (v : Voice). Envelope·clocks (clocksOf calls) (v .envelope)) (read-voice w c address)
 envelope-after w (tick ∷ calls) c (next h r) =
     envelope-after w calls (called tick c) r
-    ∙ ap (Envelope·clocks (clocksOf calls)) (tick-envelope afresh w c)
+    ∙ ap (Envelope·clocks (clocksOf calls)) (tick-envelope stepwise w c)
     ∙ sym (times-first Envelope·clocked (clocksOf calls) (of w c .envelope))
 envelope-after w (clear ∷ calls) c (next h r) =
     ap (λ (t : Bool). cond t (Envelope·clocks (clocksOf calls) (of w c .envelope)) (of w (after calls (called clear c)) .envelope)) h
@@ -81,7 +81,7 @@ chip-sustains w calls more c h s r q below top =
     let n = clocksOf calls in
     let volume : Envelope → ℕ = λ x. x .volume in
     let before = envelope-after w calls c r in
-    let on : of w (ticked (after calls c)) .envelope ≡ Envelope·clocks (suc n) e = tick-envelope afresh w (after calls c) ∙ ap Envelope·clocked before in
+    let on : of w (ticked (after calls c)) .envelope ≡ Envelope·clocks (suc n) e = tick-envelope stepwise w (after calls c) ∙ ap Envelope·clocked before in
     let later = envelope-after w more (ticked (after calls c)) q ∙ ap (Envelope·clocks (clocksOf more)) on in
     ap volume (later ∙ times-add Envelope·clocked (clocksOf more) (suc n) e)
     ∙ sustain-holds e h s n (λ k. below (ap volume before ∙ k)) (ap volume (sym on) ∙ top) (suc n + clocksOf more) (omega arith)

@@ -1,6 +1,6 @@
 -- `run` among calls: the n clocks that it makes (`ticks n`) count as n ticks in every law of any run of calls, alone
 -- and between other calls. Assumes nothing.
-use mathlib.Core.Path.{_≡_, refl, ap, subst, _∙_}
+use mathlib.Core.Path.{_≡_, refl, ap, sym, subst, _∙_}
 use mathlib.Core.Bool.{Bool, true}
 use mathlib.Core.List.{List, [], _∷_, _++_}
 use Prim.Native.Nat.{ℕ, zero, suc, _+_, _%_, _^_, _≤_}
@@ -8,12 +8,13 @@ use native.Mathlib.Omega.{arith}
 use Rattle.laws.specs.Times.{times}
 use Rattle.bus.specs.Bus.{holds, kept}
 use Rattle.envelope.specs.Envelope.{clocks as Envelope·clocks}
-use Rattle.oscillator.specs.Ways.{afresh}
-use Rattle.sid.specs.Sid.{readAt, ticks, codeOf, Call, write, read, tick, clear, potX, potY, after, ticksThen, clocksOf}
+use Rattle.oscillator.specs.Ways.{afresh, stepwise}
+use Rattle.sid.specs.Sid.{readAt, ticksBy, ticks, codeOf, Call, write, read, tick, clear, potX, potY, afterBy, after, ticksThen, clocksOf}
 use Rattle.sid.specs.declared.Mos6581.{Mos6581}
 use Rattle.sid.proofs.Joined.{after-join, after-ticks, count-ticks}
-use Rattle.calls.specs.Calls.{Which, of, Each, none, next, spares, floating, undriven, leavesOff, Leads, Fades, Floats}
+use Rattle.calls.specs.Calls.{Which, of, Each, none, next, spares, floating, undriven, leavesOff, Leads, Fades, Floats, mostSince, Recent, Ahead}
 use Rattle.calls.proofs.Voices.{tick-cycle}
+use Rattle.calls.proofs.Leaks.{calls-as-01}
 use Rattle.calls.proofs.Lifted.{envelope-after}
 
 clocks-join : (calls more : List Call) → clocksOf (calls ++ more) ≡ clocksOf calls + clocksOf more
@@ -25,6 +26,11 @@ clocks-join (tick ∷ calls) more = omega (arith, clocks-join calls more)
 clocks-join (clear ∷ calls) more = clocks-join calls more
 clocks-join (potX value ∷ calls) more = clocks-join calls more
 clocks-join (potY value ∷ calls) more = clocks-join calls more
+
+most-ticks : (n k : ℕ) → mostSince (ticksThen n []) k ≡ k + n
+unfolding ticksThen mostSince
+most-ticks zero k = omega arith
+most-ticks (suc n) k = omega (arith, most-ticks n (suc k))
 
 module _ {allows : Call → Bool} where
   each-join : {calls more : List Call} → Each allows calls → Each allows more → Each allows (calls ++ more)
@@ -41,12 +47,12 @@ module _ {allows : Call → Bool} where
   calls-lead calls c r = record { calls = calls; allowed = r; clocks = refl; same = refl }
 
   pub run-leads : (n : ℕ) (c : Mos6581) → allows tick ≡ true → Leads allows c (ticks n c) n
-  unfolding after clocksOf
+  unfolding afterBy clocksOf
   run-leads n c h = record {
     calls = ticksThen n [];
     allowed = each-ticks n h none;
     clocks = omega (arith, count-ticks n []);
-    same = after-ticks n [] c;
+    same = after-ticks stepwise n [] c;
   }
 
   pub leads-on : {c d e : Mos6581} {n m : ℕ} → Leads allows c d n → Leads allows d e m → Leads allows c e (n + m)
@@ -54,7 +60,7 @@ module _ {allows : Call → Bool} where
     calls = a .calls ++ b .calls;
     allowed = each-join (a .allowed) (b .allowed);
     clocks = omega (arith, clocks-join (a .calls) (b .calls), a .clocks, b .clocks);
-    same = after-join (a .calls) (b .calls) c ∙ ap (after (b .calls)) (a .same) ∙ b .same;
+    same = after-join stepwise (a .calls) (b .calls) c ∙ ap (after (b .calls)) (a .same) ∙ b .same;
   }
 
   -- WHATEVER HOLDS after any allowed calls with n ticks holds after calls mixed with runs
@@ -79,7 +85,20 @@ run-envelope w n c =
 pub run-cycle : (n : ℕ) (c : Mos6581) (k : ℕ) → c .cycle ≡ k % 2 ^ 64 → ticks n c .cycle ≡ (k + n) % 2 ^ 64
 unfolding times
 run-cycle zero c k e = e ∙ omega arith
-run-cycle (suc n) c k e = tick-cycle afresh (ticks n c) ∙ omega (arith, run-cycle n c k e)
+run-cycle (suc n) c k e = tick-cycle stepwise (ticks n c) ∙ omega (arith, run-cycle n c k e)
+
+-- it is document 01's, with its loops, while the chip was made or reset fewer than 2^63 clocks ago
+pub run-as-01
+    : (n : ℕ) (c : Mos6581) (k : ℕ)
+    → c .cycle ≡ k % 2 ^ 64
+    → ((w : Which) → Ahead w c)
+    → Recent (k + n)
+    → ticks n c ≡ ticksBy afresh n c
+unfolding afterBy
+run-as-01 n c k e h l =
+    sym (after-ticks stepwise n [] c)
+    ∙ calls-as-01 (ticksThen n []) c k e h (subst Recent (sym (most-ticks n k)) l)
+    ∙ after-ticks afresh n [] c
 
 -- a byte has faded for n clocks
 pub run-fades : (v : ℕ) (c : Mos6581) (n address : ℕ) → Fades v c → floating address ≡ true → readAt (ticks n c) address .byte ≡ kept holds v n

@@ -16,7 +16,7 @@ use Rattle.noise.proofs.Shows.{Shows, fresh-shows, stepped-shows, coupled-shows
 use Rattle.oscillator.specs.Oscillator.{fresh as Oscillator·fresh, clockedTone, clockedBy as Oscillator·clockedBy, comparedTone, evaluatedBy, feedsBack, fedBackTone, fedBack, latchedTone, couples, pullsDown, coupledNoise, pulledNoise, latchedNoise, latchedCode, testedNoise, resetPhase, testedTone, written as Oscillator·written, synchronised as Oscillator·synchronised, voicedBy as Oscillator·voicedBy}
 use Rattle.oscillator.specs.declared.Control.{Control}
 use Rattle.oscillator.specs.declared.Tone.{Tone}
-use Rattle.oscillator.specs.Ways.{afresh}
+use Rattle.oscillator.specs.Ways.{stepwise}
 use Rattle.sid.specs.Sid.{freshVoice, fresh, resetVoice, writtenEnvelope, writtenVoice, clockedVoice, clockedVoiceBy, voiced, voicedBy, synchronisedIf, phaseOf, Call, called, after}
 use Rattle.sid.specs.declared.Voice.{Voice}
 use Rattle.sid.specs.declared.Mos6581.{Mos6581}
@@ -97,7 +97,7 @@ unfolding resetVoice Oscillator·fresh
 call-sound =
     call-keeps Sound
     (λ v modulator cycle taken h. record {
-      held-is-zero = subst Zero (sym (sync-envelope afresh taken v modulator cycle)) (held-is-zero (v .envelope) (h .held-is-zero));
+      held-is-zero = subst Zero (sym (sync-envelope stepwise taken v modulator cycle)) (held-is-zero (v .envelope) (h .held-is-zero));
       noise-shows = tick-shows v modulator cycle taken (h .noise-shows);
       phase-fits = tick-fits v modulator cycle taken;
       latched = voice-latched v modulator cycle taken;

@@ -14,8 +14,8 @@ use Rattle.envelope.specs.Envelope.{clocked as Envelope·clocked, targetRefresh
 use Rattle.envelope.specs.declared.Envelope.{Envelope}
 use Rattle.oscillator.specs.Oscillator.{writtenControl, tuned, resetPhase, testedTone, written as Oscillator·written}
 use Rattle.oscillator.specs.declared.Oscillator.{Oscillator}
-use Rattle.oscillator.specs.Ways.{Ways, afresh}
-use Rattle.sid.specs.Sid.{freshVoice, fresh, register, withBus, resetVoice, reset, writtenOscillator, writtenEnvelope, writtenVoice, writtenTo, written, readDriven, readAt, withPotX, withPotY, clockedVoice, clockedVoiceBy, nextCycle, clockedBy, voiced, voicedBy, voiced0By, voiced1By, voiced2By, synchronisedIf, synchronised, tickedBy, Call, write, read, tick, clear, potX, potY, called, after}
+use Rattle.oscillator.specs.Ways.{Ways, stepwise}
+use Rattle.sid.specs.Sid.{freshVoice, fresh, register, withBus, resetVoice, reset, writtenOscillator, writtenEnvelope, writtenVoice, writtenTo, written, readDriven, readAt, withPotX, withPotY, clockedVoice, clockedVoiceBy, nextCycle, clockedBy, voiced, voicedBy, voiced0By, voiced1By, voiced2By, synchronisedIf, synchronised, tickedBy, Call, write, read, tick, clear, potX, potY, calledBy, called, afterBy, after}
 use Rattle.sid.specs.declared.Voice.{Voice}
 use Rattle.sid.specs.declared.Mos6581.{Mos6581}
 use Rattle.sid.specs.declared.Read.{Read}
@@ -229,17 +229,17 @@ module _
     (by-reset : (v : Voice) → P v → P (resetVoice v))
     (by-write : (v : Voice) (r value cycle : ℕ) → P v → P (writtenVoice v r value cycle)) where
   pub call-keeps : (w : Which) (call : Call) (c : Mos6581) → P (of w c) → P (of w (called call c))
-  unfolding called writtenTo
+  unfolding calledBy writtenTo
   call-keeps w (write address value) c h =
       subst P (sym (write-voice w c address value)) (either P (eqb (register address / 7) (number w)) _ _ (by-write (of w c) (register address % 7) value (c .cycle) h) h)
   call-keeps w (read address) c h = subst P (sym (read-voice w c address)) h
-  call-keeps w tick c h = let t = tick-voice afresh w c in subst P (sym (t .same)) (by-tick (of w c) (t .modulator) (nextCycle c) (t .taken) h)
+  call-keeps w tick c h = let t = tick-voice stepwise w c in subst P (sym (t .same)) (by-tick (of w c) (t .modulator) (nextCycle c) (t .taken) h)
   call-keeps w clear c h = subst P (sym (reset-voice w c)) (by-reset (of w c) h)
   call-keeps w (potX value) c h = subst P (sym (pot-x-voice w c value)) h
   call-keeps w (potY value) c h = subst P (sym (pot-y-voice w c value)) h
 
 -- what every call keeps any calls keep
 pub calls-keep : (P : Mos6581 → Type 0) → ((call : Call) (c : Mos6581) → P c → P (called call c)) → (calls : List Call) (c : Mos6581) → P c → P (after calls c)
-unfolding after
+unfolding afterBy
 calls-keep P keeps [] c h = h
 calls-keep P keeps (call ∷ calls) c h = calls-keep P keeps calls (called call c) (keeps call c h)

@@ -7,13 +7,18 @@
 -- Latched: the code, OSC3 and ENV3 (`code-after-tick`, `read-osc3-after-tick`, `read-env3-after-tick`).
 -- Sound: facts that every call keeps (`call-sound`, `sound-fresh`).
 -- Kept: the cycle counts ticks (`cycle-counts`), and what a reset keeps (`reset-keeps`).
+-- Leaks: fewer than 2^63 clocks after a chip was made or reset one leak step is due at most (`one-due`), and its calls
+-- are document 01's (`after-as-01`).
 -- Runs: `run` among calls (`run-leads`, `run-calls`), and after it an envelope, the cycle, the byte, a floating code.
-use Prim.Native.Nat.{ℕ, suc, _+_, _-_, _/_, _%_, _^_, _<_, _≤_}
+use Prim.Native.Nat.{ℕ, suc, _+_, _-_, _/_, _%_, _^_, _<_, _≤_, max}
 use mathlib.Core.Path.{_≡_}
 use mathlib.Core.Bool.{Bool, true, false, not, _&&_, _||_}
 use mathlib.Core.List.{List, [], _∷_, _++_}
 use lib.Dec.{eqb, ltb}
-use Rattle.noise.specs.Noise.{shown as Noise·shown}
+use Rattle.laws.specs.Cycle.{never}
+use Rattle.noise.specs.Noise.{shown as Noise·shown, stepsDue as Noise·stepsDue, Ahead as Noise·Ahead}
+use Rattle.floating.specs.Floating.{stepsDue as Floating·stepsDue, Ahead as Floating·Ahead}
+use Rattle.oscillator.specs.declared.Oscillator.{Oscillator}
 use Rattle.bus.specs.Bus.{holds, kept}
 use Rattle.release.specs.Release.{steps, landing, Needs}
 use Rattle.sid.specs.Sid.{register, readAt, Call, write, read, tick, clear, potX, potY, after, clocksOf, phaseOf, codeOf, levelOf, heldOf}
@@ -176,3 +181,38 @@ clocksSince (tick ∷ calls) n = clocksSince calls (suc n)
 clocksSince (clear ∷ calls) n = clocksSince calls 0
 clocksSince (potX value ∷ calls) n = clocksSince calls n
 clocksSince (potY value ∷ calls) n = clocksSince calls n
+
+-- the most that these come to in the course of calls
+unfoldable pub mostSince : List Call → ℕ → ℕ
+mostSince [] n = n
+mostSince (write address value ∷ calls) n = mostSince calls n
+mostSince (read address ∷ calls) n = mostSince calls n
+mostSince (tick ∷ calls) n = mostSince calls (suc n)
+mostSince (clear ∷ calls) n = max n (mostSince calls 0)
+mostSince (potX value ∷ calls) n = mostSince calls n
+mostSince (potY value ∷ calls) n = mostSince calls n
+
+-- ---- document 02, request 12: 'at most one [leak step] due, since both are looked at on every clock they matter'
+
+-- 'fewer than 2^63 clocks since the chip was made or reset'
+abbrev pub Recent : ℕ → Type 0
+Recent clocks = clocks < 2 ^ 63
+
+-- what carries it: between calls the next leak of an oscillator lies ahead of the cycle, or there is none
+pub record LeaksAhead (o : Oscillator) (cycle : ℕ) : Type 0 where
+  -- in test that of the noise register is still to come; out of test it has none
+  pub recovers : o .control .«test_enabled» ≡ true → Noise·Ahead (o .noise .numbers) cycle
+  pub rests : o .control .«test_enabled» ≡ false → o .noise .numbers .«next_leak» ≡ never
+  -- so is that of floating lines, if they show anything; and they do only where waveform 0 is selected
+  pub leaks : Floating·Ahead (o .bus .numbers) cycle
+  pub floats : (o .bus .numbers .value ≡ 0 → ⊥) → o .control .waveform ≡ 0
+
+-- of a voice of a chip
+abbrev pub Ahead : Which → Mos6581 → Type 0
+Ahead w c = LeaksAhead (of w c .oscillator) (c .cycle)
+
+-- what it comes to at a cycle that a write or a tick sees: one leak step at most, of noise recovery in test and of
+-- floating lines
+pub record OneDue (o : Oscillator) (cycle : ℕ) : Type 0 where
+  pub recovers : o .control .«test_enabled» ≡ true → Noise·stepsDue (o .noise .numbers) cycle ≤ 1
+  pub leaks : Floating·stepsDue (o .bus .numbers) cycle ≤ 1

@@ -1,11 +1,11 @@
 -- Document 01, 'Oscillator': a code that isn't 0, captured at a cycle below 2^63 and left on the floating lines, is
--- whole for 1,260,019 clocks and zero from clock 1,260,020. For every code, cycle and number of clocks.
--- Assumes nothing.
-use borrow.Author.Tests.{eq-eqb, ne-eqb, le-leb, lt-leb, eqb-true, eqb-false}
+-- whole for 1,260,019 clocks and zero from clock 1,260,020. For every code, cycle and number of clocks, and any way to
+-- leak that makes one step where one is due at most. Assumes nothing.
+use borrow.Author.Tests.{ne-eqb, le-leb, lt-leb, eqb-true, eqb-false}
 use native.Mathlib.Nat.{mod-lt, one-mul}
 use native.Mathlib.Omega.{arith}
 use Prim.Native.Nat.{ℕ, zero, suc, _+_, _-_, _*_, _/_, _%_, _^_, _<_, _≤_}
-use mathlib.Core.Bool.{Bool, true, false, cond, _&&_}
+use mathlib.Core.Bool.{Bool, true, false, cond, and-false}
 use mathlib.Core.List.{List, [], _∷_}
 use mathlib.Core.Path.{_≡_, refl, ap, ap₂, sym, _∙_}
 use lib.Bits.{bitOr, or-shifted-r}
@@ -13,12 +13,14 @@ use lib.Dec.{eqb, leb, leb→le}
 use lib.ListN.{getD}
 use lib.Pow.{pow-pos, mod-pow-add}
 use Rattle.laws.proofs.Build.{build-at, build-same}
+use Rattle.laws.proofs.Cond.{either}
 use Rattle.laws.proofs.Table.{at}
 use Rattle.laws.specs.Build.{build}
 use Rattle.laws.specs.Charges.{charged, highTo}
 use Rattle.laws.specs.Cycle.{after}
 use Rattle.laws.specs.Times.{times}
-use Rattle.floating.specs.Floating.{captured, lost, leakStep, leaks, retained, leakedTo, sampled, samples}
+use Rattle.floating.specs.Floating.{captured, lost, leakStep, leaks, retained, leakedTo, leakedTimes, sampledOnce, stepsDue, samplesBy}
+use Rattle.floating.proofs.Once.{LeaksOnce, leak-empty}
 use Rattle.floating.specs.declared.Floating.{Floating}
 use Rattle.floating.specs.declared.FloatingBus.{FloatingBus}
 
@@ -95,15 +97,6 @@ spent = leb→le (suc (chargeAfter 15)) 18000 tt
 
 -- ---- one sample
 
-and-false : (a : Bool) → (a && false) ≡ false
-and-false true = refl
-and-false false = refl
-
--- lines that show nothing stay as they are
-pub sampled-empty : (b : FloatingBus) (cycle : ℕ) → b .numbers .value ≡ 0 → sampled b cycle ≡ b
-unfolding sampled leaks
-sampled-empty b cycle e = simp (eq-eqb (b .numbers .value) 0 e)
-
 -- the lines after j steps
 unfoldable stage : ℕ → ℕ → ℕ → FloatingBus
 stage w c j = record { numbers = record { value = w; «hold_until» = c + 1137140; «next_leak» = c + 1145332 + 8192 * j }; charge = row w (chargeAfter j) }
@@ -123,26 +116,30 @@ leaked-gone f l t e = ap (λ (x : ℕ). x % 4096) e
 
 module _ (w c : ℕ) (some : w ≡ 0 → ⊥) (small : w < 4096) (early : c < 2 ^ 63) where
   -- before the next leak nothing changes
-  waits : (j cycle : ℕ) → cycle < c + 1145332 + 8192 * j → sampled (stage w c j) cycle ≡ stage w c j
-  unfolding sampled leaks stage
+  waits : (j cycle : ℕ) → cycle < c + 1145332 + 8192 * j → sampledOnce (stage w c j) cycle ≡ stage w c j
+  unfolding sampledOnce leaks stage
   waits j cycle h = simp (ne-eqb w 0 some, lt-leb (c + 1145332 + 8192 * j) cycle h, and-false (leb (c + 1137140) cycle))
 
   -- the leak itself
-  leaked : (j : ℕ) → sampled (stage w c j) (c + 1145332 + 8192 * j) ≡ leakedTo (stage w c j .numbers) (row w (chargeAfter (suc j))) ((c + 1145332 + 8192 * j + 8192) % 2 ^ 64)
-  unfolding sampled leaks stage times chargeAfter
+  leaked : (j : ℕ) → sampledOnce (stage w c j) (c + 1145332 + 8192 * j) ≡ leakedTo (stage w c j .numbers) (row w (chargeAfter (suc j))) ((c + 1145332 + 8192 * j + 8192) % 2 ^ 64)
+  unfolding sampledOnce leakedTimes leaks stage times chargeAfter
   leaked j =
-      let z : (c + 1145332 + 8192 * j) - (c + 1145332 + 8192 * j) ≡ 0 = omega arith in
-      simp (ne-eqb w 0 some, le-leb (c + 1137140) (c + 1145332 + 8192 * j) (omega arith), le-leb (c + 1145332 + 8192 * j) (c + 1145332 + 8192 * j) (omega arith), z, row-lost w (chargeAfter j))
+      simp (ne-eqb w 0 some, le-leb (c + 1137140) (c + 1145332 + 8192 * j) (omega arith), le-leb (c + 1145332 + 8192 * j) (c + 1145332 + 8192 * j) (omega arith), row-lost w (chargeAfter j))
 
-  steps : (j : ℕ) → j ≤ 13 → sampled (stage w c j) (c + 1145332 + 8192 * j) ≡ stage w c (suc j)
+  steps : (j : ℕ) → j ≤ 13 → sampledOnce (stage w c j) (c + 1145332 + 8192 * j) ≡ stage w c (suc j)
   steps j h = leaked j ∙ leaked-whole w c j some whole-yet (omega arith)
     where
       whole-yet : retained (row w (chargeAfter (suc j))) ≡ w
       whole-yet = ap (λ (x : ℕ). x % 4096) (row-high w (chargeAfter (suc j)) 12 (omega arith) (enough (suc j) (omega arith))) ∙ omega arith
 
   -- the fifteenth leak leaves nothing
-  ends : sampled (stage w c 14) (c + 1145332 + 8192 * 14) .numbers .value ≡ 0
+  ends : sampledOnce (stage w c 14) (c + 1145332 + 8192 * 14) .numbers .value ≡ 0
   ends = ap (λ (b : FloatingBus). b .numbers .value) (leaked 14) ∙ leaked-gone _ _ _ (row-low w (chargeAfter 15) 12 (omega arith) spent)
+
+  -- up to the next leak one is due at most
+  due : (j cycle : ℕ) → cycle ≤ c + 1145332 + 8192 * j → stepsDue (stage w c j .numbers) cycle ≤ 1
+  unfolding stepsDue stage
+  due j cycle h = either (λ (n : ℕ). n ≤ 1) (leaks (stage w c j .numbers) cycle) _ _ (omega arith) (omega arith)
 
 -- ---- all clocks after a capture of v at cycle c
 
@@ -150,7 +147,7 @@ module _ (w c : ℕ) (some : w ≡ 0 → ⊥) (small : w < 4096) (early : c < 2 
 abbrev stepOf : ℕ → ℕ
 stepOf n = (n - 1137140) / 8192
 
-module _ (v c : ℕ) (some : v % 4096 ≡ 0 → ⊥) (early : c < 2 ^ 63) where
+module _ {leak : FloatingBus → ℕ → FloatingBus} (once : LeaksOnce leak) (v c : ℕ) (some : v % 4096 ≡ 0 → ⊥) (early : c < 2 ^ 63) where
   abbrev w : ℕ
   w = v % 4096
 
@@ -161,41 +158,49 @@ module _ (v c : ℕ) (some : v % 4096 ≡ 0 → ⊥) (early : c < 2 ^ 63) where
       let q : (c + 1137140 + 8192) % 2 ^ 64 ≡ c + 1145332 + 8192 * 0 = omega arith in
       simp (p, q, row-charged (v % 4096))
 
-  stages : (n : ℕ) → n ≤ 1260019 → samples n (captured v c) c ≡ stage w c (stepOf n)
-  unfolding samples
+  -- a clock up to the next leak
+  clock : (j cycle : ℕ) → cycle ≤ c + 1145332 + 8192 * j → leak (stage w c j) cycle ≡ sampledOnce (stage w c j) cycle
+  clock j cycle h = once (stage w c j) cycle (due w c some (omega arith) early j cycle h)
+
+  stages : (n : ℕ) → n ≤ 1260019 → samplesBy leak n (captured v c) c ≡ stage w c (stepOf n)
+  unfolding samplesBy
   stages zero h = begins
-  stages (suc n) h = ap₂ sampled (stages n (omega arith)) now ∙ go (eqb (suc n) (1145332 + 8192 * stepOf n)) refl
+  stages (suc n) h =
+      ap₂ leak (stages n (omega arith)) now ∙ clock (stepOf n) (c + suc n) (omega arith) ∙ go (eqb (suc n) (1145332 + 8192 * stepOf n)) refl
     where
       now : after c (suc n) ≡ c + suc n
       now = omega arith
 
-      go : (t : Bool) → eqb (suc n) (1145332 + 8192 * stepOf n) ≡ t → sampled (stage w c (stepOf n)) (c + suc n) ≡ stage w c (stepOf (suc n))
+      go : (t : Bool) → eqb (suc n) (1145332 + 8192 * stepOf n) ≡ t → sampledOnce (stage w c (stepOf n)) (c + suc n) ≡ stage w c (stepOf (suc n))
       go true e =
           let z : suc n ≡ 1145332 + 8192 * stepOf n = eqb-true (suc n) (1145332 + 8192 * stepOf n) e in
           let x : c + suc n ≡ c + 1145332 + 8192 * stepOf n = omega arith in
           let y : suc (stepOf n) ≡ stepOf (suc n) = omega arith in
-          ap (sampled (stage w c (stepOf n))) x ∙ steps w c some (omega arith) early (stepOf n) (omega arith) ∙ ap (stage w c) y
+          ap (sampledOnce (stage w c (stepOf n))) x ∙ steps w c some (omega arith) early (stepOf n) (omega arith) ∙ ap (stage w c) y
       go false e =
           let z : (suc n ≡ 1145332 + 8192 * stepOf n) → ⊥ = eqb-false (suc n) (1145332 + 8192 * stepOf n) e in
           let y : stepOf n ≡ stepOf (suc n) = omega arith in
           waits w c some (omega arith) early (stepOf n) (c + suc n) (omega arith) ∙ ap (stage w c) y
 
   -- THE LAW, in its two halves
-  pub lines-whole : (n : ℕ) → n ≤ 1260019 → samples n (captured v c) c .numbers .value ≡ v % 4096
+  pub lines-whole : (n : ℕ) → n ≤ 1260019 → samplesBy leak n (captured v c) c .numbers .value ≡ v % 4096
   unfolding stage
   lines-whole n h = ap (λ (x : FloatingBus). x .numbers .value) (stages n h)
 
-  pub lines-gone : (n : ℕ) → 1260020 ≤ n → samples n (captured v c) c .numbers .value ≡ 0
-  unfolding samples
+  pub lines-gone : (n : ℕ) → 1260020 ≤ n → samplesBy leak n (captured v c) c .numbers .value ≡ 0
+  unfolding samplesBy
   lines-gone zero h = absurd (omega arith)
   lines-gone (suc n) h = go (λ (k : 1260020 ≤ n). lines-gone n k) (eqb n 1260019) refl
     where
-      go : (1260020 ≤ n → samples n (captured v c) c .numbers .value ≡ 0) → (t : Bool) → eqb n 1260019 ≡ t → sampled (samples n (captured v c) c) (after c (suc n)) .numbers .value ≡ 0
+      go : (1260020 ≤ n → samplesBy leak n (captured v c) c .numbers .value ≡ 0) → (t : Bool) → eqb n 1260019 ≡ t
+          → leak (samplesBy leak n (captured v c) c) (after c (suc n)) .numbers .value ≡ 0
       go before true e =
           let z : n ≡ 1260019 = eqb-true n 1260019 e in
           let x : after c (suc n) ≡ c + 1145332 + 8192 * 14 = omega arith in
           let y : stepOf n ≡ 14 = omega arith in
-          ap₂ (λ (f : FloatingBus) (k : ℕ). sampled f k .numbers .value) (stages n (omega arith) ∙ ap (stage w c) y) x ∙ ends w c some (omega arith) early
+          ap₂ (λ (f : FloatingBus) (k : ℕ). leak f k .numbers .value) (stages n (omega arith) ∙ ap (stage w c) y) x
+          ∙ ap (λ (f : FloatingBus). f .numbers .value) (clock 14 (c + 1145332 + 8192 * 14) (omega arith))
+          ∙ ends w c some (omega arith) early
       go before false e =
           let z : (n ≡ 1260019) → ⊥ = eqb-false n 1260019 e in
-          ap (λ (f : FloatingBus). f .numbers .value) (sampled-empty (samples n (captured v c) c) (after c (suc n)) (before (omega arith))) ∙ before (omega arith)
+          ap (λ (f : FloatingBus). f .numbers .value) (leak-empty once (samplesBy leak n (captured v c) c) (after c (suc n)) (before (omega arith))) ∙ before (omega arith)

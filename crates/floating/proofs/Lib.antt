@@ -1,1 +1,2 @@
 pub mod Fade
+pub mod Once

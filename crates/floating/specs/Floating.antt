@@ -1,6 +1,7 @@
 -- The floating lines: document 01, 'Oscillator'; FloatingBus of oscillator.rs. Their numbers (Floating) stand apart
 -- from the twelve charges.
-use Prim.Native.Nat.{ℕ, zero, suc, _+_, _-_, _*_, _/_, _%_, max}
+use Prim.Native.Nat.{ℕ, zero, suc, _+_, _-_, _*_, _/_, _%_, _<_, _≤_, max}
+use mathlib.Core.Path.{_≡_}
 use mathlib.Core.Bool.{Bool, cond, not, _&&_}
 use mathlib.Core.List.{List}
 use lib.Dec.{eqb, leb}
@@ -48,21 +49,33 @@ leakedTo f charge at = record {
   charge = charge;
 }
 
+-- the lines after n leak steps, one after the other (sample)
+unfoldable pub leakedTimes : ℕ → FloatingBus → FloatingBus
+leakedTimes n b = leakedTo (b .numbers) (times n leakStep (b .charge)) (after (b .numbers .«next_leak») (n * 8192))
+
 -- the leak steps elapsed at a cycle, counted from the next leak on (elapsed_steps of sample)
 abbrev pub leakSteps : ℕ → ℕ → ℕ
 leakSteps at cycle = (cycle - at) / 8192 + 1
 
--- the lines sampled at a cycle: the leak steps that are due, one after the other (sample). What the Rust returns is the
--- value that they then have
+-- the lines sampled at a cycle: the leak steps that are due (sample). What the Rust returns is the value that they then
+-- have
 unfoldable pub sampled : FloatingBus → ℕ → FloatingBus
-sampled b cycle =
-    cond (leaks (b .numbers) cycle)
-    (leakedTo (b .numbers)
-    (times (leakSteps (b .numbers .«next_leak») cycle) leakStep (b .charge))
-    (after (b .numbers .«next_leak») (leakSteps (b .numbers .«next_leak») cycle * 8192)))
-    b
+sampled b cycle = cond (leaks (b .numbers) cycle) (leakedTimes (leakSteps (b .numbers .«next_leak») cycle) b) b
 
--- 'Left so': the lines sampled on each of the n clocks that follow a cycle
-unfoldable pub samples : ℕ → FloatingBus → ℕ → FloatingBus
-samples zero b cycle = b
-samples (suc n) b cycle = sampled (samples n b cycle) (after cycle (suc n))
+-- 'have the chip's tick take one step': where one is due or more (document 02, request 12)
+unfoldable pub sampledOnce : FloatingBus → ℕ → FloatingBus
+sampledOnce b cycle = cond (leaks (b .numbers) cycle) (leakedTimes 1 b) b
+
+-- how many are due; where it is one at most, the two rules above are one (`sample-once` in proofs/Once)
+unfoldable pub stepsDue : Floating → ℕ → ℕ
+stepsDue f cycle = cond (leaks f cycle) (leakSteps (f .«next_leak») cycle) 0
+
+-- lines that show something have their next leak ahead of a cycle, and no hold after it: so none is due at that cycle,
+-- and one at most on the next clock (`ahead-one` in proofs/Once)
+abbrev pub Ahead : Floating → ℕ → Type 0
+Ahead f cycle = (f .value ≡ 0 → ⊥) → (f .«hold_until» ≤ f .«next_leak») × (cycle < f .«next_leak»)
+
+-- 'Left so': the lines sampled in a way on each of the n clocks that follow a cycle
+unfoldable pub samplesBy : (FloatingBus → ℕ → FloatingBus) → ℕ → FloatingBus → ℕ → FloatingBus
+samplesBy leak zero b cycle = b
+samplesBy leak (suc n) b cycle = leak (samplesBy leak n b cycle) (after cycle (suc n))

@@ -6,7 +6,7 @@ use laws::saturating_sub;
 ghost use mathlib.Core.Path.{_≡_};
 ghost use Rattle.laws.specs.Times.{times};
 ghost use Rattle.laws.specs.Charges.{charged};
-ghost use Rattle.floating.specs.Floating.{fresh, captured, lost as Floating·lost, leakStep, leaks as Floating·leaks, retained as Floating·retained, leakedTo, sampled};
+ghost use Rattle.floating.specs.Floating.{fresh, captured, lost as Floating·lost, leakStep, leaks as Floating·leaks, retained as Floating·retained, leakedTo, sampled, sampledOnce};
 ghost use Rattle.floating.specs.Loop.{lines};
 
 pub struct Floating {
@@ -91,17 +91,17 @@ fn retained(charge: [u16; 12]) -> u16
 }
 
 impl Floating {
-    // Whether `sample` leaks.
+    // Whether `sample` leaks. Asked on every clock: the next leak first, which is nearly always still to come.
     pub fn leaks(self, cycle: u64) -> bool
         ensures { λ r. ⌜ r ≡ Floating·leaks self cycle ⌝ }
     {
+        if cycle < self.next_leak {
+            return false;
+        }
         if self.value == 0 {
             return false;
         }
         if cycle < self.hold_until {
-            return false;
-        }
-        if cycle < self.next_leak {
             return false;
         }
         true
@@ -193,19 +193,20 @@ fn leaked(f: Floating, charge: [u16; 12], next_leak: u64) -> FloatingBus
 }
 
 impl Floating {
-    // `sample` on charges that are lent and changed where they stand, for a caller's loop.
-    pub fn sample_lent(self, cycle: u64, charge: &mut [u16; 12]) -> Floating
-        ensures { λ r. ⌜ lines r (now (charge .exit)) ≡ sampled (lines self (now (charge .entry))) cycle ⌝ }
+    // A chip's `sample`, which makes one step where one is due or more, on charges that are lent and changed where they
+    // stand.
+    pub fn sample_once_lent(self, cycle: u64, charge: &mut [u16; 12]) -> Floating
+        ensures { λ r. ⌜ lines r (now (charge .exit)) ≡ sampledOnce (lines self (now (charge .entry))) cycle ⌝ }
     {
-        let old_charge = *charge;
-        let before = FloatingBus {
-            numbers: self,
-            charge: old_charge,
-        };
-        let after = before.sample(cycle);
-        let new_charge = after.charge;
-        let numbers = after.numbers;
-        *charge = new_charge;
-        numbers
+        if self.leaks(cycle) {
+            let interval = WAVEFORM_FLOAT_LEAK_INTERVAL_CYCLES;
+            let at = std::num::wrapping_add_u64(self.next_leak, interval);
+            let after = leaked(self, leak_step(*charge), at);
+            let new_charge = after.charge;
+            let numbers = after.numbers;
+            *charge = new_charge;
+            return numbers;
+        }
+        self
     }
 }

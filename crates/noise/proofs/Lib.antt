@@ -1,4 +1,5 @@
 pub mod Moves
+pub mod Once
 pub mod Shift
 pub mod Shows
 pub mod Still

@@ -1,11 +1,11 @@
--- The noise lines show the stages as they are: fresh, and after every step of the register. Assumes nothing.
+-- The noise lines show the stages as they are: fresh, and after every step of a chip's register. Assumes nothing.
 use mathlib.Core.Path.{_≡_, refl, sym, ap, _∙_}
 use mathlib.Core.Bool.{Bool, true, false, cond, true≢false}
 use Prim.Native.Nat.{ℕ, zero, suc, _^_}
 use lib.Bits.{bitOr}
 use Rattle.laws.specs.Times.{times}
 use Rattle.laws.proofs.Cond.{by-test, either}
-use Rattle.noise.specs.Noise.{shown, fresh, enteredTest, leftTest, captures, captureNumbers, clocked, transfers, shiftedNumbers, transferred, marks, relaxedStage, relaxedTo, relaxStep, settledTo, leakSteps, come, relaxed, coupled, pulledNumbers, pulledDown, stepped, steppedBy}
+use Rattle.noise.specs.Noise.{shown, fresh, enteredTest, leftTest, captures, captureNumbers, clocked, transfers, shiftedNumbers, transferred, marks, relaxedStage, relaxedTo, relaxStep, settledTo, come, relaxedTimes, relaxedOnce, coupled, pulledNumbers, pulledDown, steppedOnce, steppedBy}
 use Rattle.noise.specs.declared.NoiseGenerator.{NoiseGenerator}
 use Rattle.noise.specs.declared.Stages.{Stages}
 
@@ -39,11 +39,10 @@ unfolding settledTo
 settled-shows g s at h u =
     by-test (λ (x : ℕ). x ≡ shown (s .state)) (s .changed) _ _ (λ _. refl) (λ e. h ∙ ap (λ (x : ℕ). shown x) (sym (u e)))
 
-relaxed-shows : (g : NoiseGenerator) (cycle : ℕ) → Shows g → Shows (relaxed g cycle)
-unfolding relaxed
+relaxed-shows : (g : NoiseGenerator) (cycle : ℕ) → Shows g → Shows (relaxedOnce g cycle)
+unfolding relaxedOnce relaxedTimes
 relaxed-shows g cycle h =
-    either Shows (come (g .numbers .«next_leak») cycle) _ _
-    (settled-shows g _ _ h (steps-unmarked (g .numbers .state) _ (leakSteps (g .numbers .«next_leak») cycle) (λ _. refl))) h
+    either Shows (come (g .numbers .«next_leak») cycle) _ _ (settled-shows g _ _ h (steps-unmarked (g .numbers .state) _ 1 (λ _. refl))) h
 
 transferred-shows : (g : NoiseGenerator) (cycle : ℕ) → Shows g → Shows (transferred g cycle)
 unfolding transferred shiftedNumbers
@@ -59,7 +58,7 @@ pub fresh-shows : Shows fresh
 unfolding fresh
 fresh-shows = refl
 
-pub stepped-shows : (g : NoiseGenerator) (test : Bool) (rising cycle : ℕ) → Shows g → Shows (stepped g test rising cycle)
+pub stepped-shows : (g : NoiseGenerator) (test : Bool) (rising cycle : ℕ) → Shows g → Shows (steppedOnce g test rising cycle)
 unfolding steppedBy
 stepped-shows g test rising cycle h =
     either Shows test _ _ (relaxed-shows g cycle h) (clocked-shows (transferred g cycle) rising cycle (transferred-shows g cycle h))

@@ -2,7 +2,7 @@
 -- Its numbers (Noise) stand apart from the two lists of charges.
 -- 'Capture, test entry and exit, charge and pull-down follow document 000 rule for rule, with wrapping on the 64-bit
 -- cycle.' What a register shows is its `visible` (output).
-use Prim.Native.Nat.{ℕ, zero, suc, _+_, _-_, _*_, _/_, _%_, _^_, min, max}
+use Prim.Native.Nat.{ℕ, zero, suc, _+_, _-_, _*_, _/_, _%_, _^_, _<_, min, max}
 use mathlib.Core.Bool.{Bool, true, false, cond, not, _&&_}
 use mathlib.Core.List.{List, [], _∷_, _++_}
 use lib.Bits.{bitAnd, bitOr, bitXor}
@@ -199,18 +199,34 @@ settledTo g s at = record {
   charge = s .charge;
 }
 
+-- the register after n leak steps, one after the other (relax)
+unfoldable pub relaxedTimes : ℕ → NoiseGenerator → NoiseGenerator
+relaxedTimes n g =
+    settledTo g
+    (times n relaxStep (record { state = g .numbers .state; changed = false; charge = g .charge }))
+    (after (g .numbers .«next_leak») (n * 65536))
+
 -- the leak steps elapsed at a cycle, counted from the next leak on (elapsed_steps of relax)
 abbrev pub leakSteps : ℕ → ℕ → ℕ
 leakSteps at cycle = (cycle - at) / 65536 + 1
 
--- the leak steps that are due, one after the other (relax)
+-- the leak steps that are due (relax)
 unfoldable pub relaxed : NoiseGenerator → ℕ → NoiseGenerator
 relaxed g cycle =
-    cond (come (g .numbers .«next_leak») cycle)
-    (settledTo g
-    (times (leakSteps (g .numbers .«next_leak») cycle) relaxStep (record { state = g .numbers .state; changed = false; charge = g .charge }))
-    (after (g .numbers .«next_leak») (leakSteps (g .numbers .«next_leak») cycle * 65536)))
-    g
+    cond (come (g .numbers .«next_leak») cycle) (relaxedTimes (leakSteps (g .numbers .«next_leak») cycle) g) g
+
+-- 'have the chip's tick take one step': where one is due or more (document 02, request 12)
+unfoldable pub relaxedOnce : NoiseGenerator → ℕ → NoiseGenerator
+relaxedOnce g cycle = cond (come (g .numbers .«next_leak») cycle) (relaxedTimes 1 g) g
+
+-- how many are due; where it is one at most, the two rules above are one (`relax-once` in proofs/Once)
+unfoldable pub stepsDue : Noise → ℕ → ℕ
+stepsDue n cycle = cond (come (n .«next_leak») cycle) (leakSteps (n .«next_leak») cycle) 0
+
+-- the next leak lies ahead of a cycle: so none is due at that cycle, and one at most on the next clock (`ahead-one` in
+-- proofs/Once)
+abbrev pub Ahead : Noise → ℕ → Type 0
+Ahead n cycle = cycle < n .«next_leak»
 
 -- the line of tap n is low in a code (load_pulse_coupling, pull_down)
 abbrev pub low : ℕ → ℕ → Bool
@@ -277,9 +293,12 @@ pulledDown g waveform cycle = record {
 unfoldable pub steppedBy : (NoiseGenerator → ℕ → NoiseGenerator) → NoiseGenerator → Bool → ℕ → ℕ → NoiseGenerator
 steppedBy recover g test rising cycle = cond test (recover g cycle) (clocked (transferred g cycle) rising cycle)
 
--- where it relaxes as document 01 says
+-- where it relaxes as document 01 says, by all steps that are due; and in a chip
 abbrev pub stepped : NoiseGenerator → Bool → ℕ → ℕ → NoiseGenerator
 stepped = steppedBy relaxed
+
+abbrev pub steppedOnce : NoiseGenerator → Bool → ℕ → ℕ → NoiseGenerator
+steppedOnce = steppedBy relaxedOnce
 
 -- the clocks on which pulse alone reaches the register: the one on which the shift of a rise lands, and the one before
 -- (pulse_load_aperture of latch_output)

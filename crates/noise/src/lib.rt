@@ -8,7 +8,7 @@ ghost use mathlib.Core.Path.{_≡_};
 ghost use Prim.Native.Nat.{_<_};
 ghost use Rattle.laws.specs.Times.{times};
 ghost use Rattle.laws.specs.Charges.{charged};
-ghost use Rattle.noise.specs.Noise.{tap as Noise·tap, shown, fresh, enteredTest, sampled as Noise·sampled, leftTest, captures as Noise·captures, captureNumbers, clocked, come, transfers as Noise·transfers, feedback as Noise·feedback, shiftedState, incoming as Noise·incoming, shiftedCharge, shiftedNumbers, transferred, recovered as Noise·recovered, relaxedStage, relaxStep, settledTo, relaxed, low, drained as Noise·drained, coupledTo, coupled, dischargedTo, clearedTo, affectsCapture, pulledNumbers, pulledDown, stepped, pulseLoadAperture};
+ghost use Rattle.noise.specs.Noise.{tap as Noise·tap, shown, fresh, enteredTest, sampled as Noise·sampled, leftTest, captures as Noise·captures, captureNumbers, clocked, come, transfers as Noise·transfers, feedback as Noise·feedback, shiftedState, incoming as Noise·incoming, shiftedCharge, shiftedNumbers, transferred, recovered as Noise·recovered, relaxedStage, relaxStep, settledTo, relaxed, relaxedOnce, low, drained as Noise·drained, coupledTo, coupled, dischargedTo, clearedTo, affectsCapture, pulledNumbers, pulledDown, stepped, steppedOnce, pulseLoadAperture};
 ghost use Rattle.noise.specs.Loop.{generator, stepDue};
 
 pub struct Noise {
@@ -67,13 +67,14 @@ fn is_low(waveform: u16, line: usize) -> bool
     (waveform >> (11 - line)) % 2 == 0
 }
 
+// Asked on every clock: first what is nearly always so.
 fn has_come(at: u64, cycle: u64) -> bool
     ensures { λ r. ⌜ r ≡ come at cycle ⌝ }
 {
-    if at == NEVER {
+    if cycle < at {
         return false;
     }
-    at <= cycle
+    at != NEVER
 }
 
 // A term a tap: its stage and its line.
@@ -493,6 +494,25 @@ impl NoiseGenerator {
         self.settle(stages, at)
     }
 
+    // A chip's `relax`: one step where one is due or more.
+    fn relax_once(self, cycle: u64) -> NoiseGenerator
+        ensures { λ r. ⌜ r ≡ relaxedOnce self cycle ⌝ }
+    {
+        let n = self.numbers;
+        let next_leak = n.next_leak;
+        if has_come(next_leak, cycle) {
+            let charge = self.charge;
+            let start = Stages {
+                state: n.state,
+                changed: false,
+                charge,
+            };
+            let at = std::num::wrapping_add_u64(next_leak, NOISE_TEST_LEAK_INTERVAL_CYCLES);
+            return self.settle(start.relax_step(), at);
+        }
+        self
+    }
+
     // The end of `relax`, with its next leak.
     fn settle(self, stages: Stages, next_leak: u64) -> NoiseGenerator
         ensures { λ r. ⌜ r ≡ settledTo self stages «next_leak» ⌝ }
@@ -586,27 +606,22 @@ impl NoiseGenerator {
     pub fn step(self, test: bool, rising_bits: u32, cycle: u64) -> NoiseGenerator
         ensures { λ r. ⌜ r ≡ stepped self test «rising_bits» cycle ⌝ }
     {
-        let before = self.numbers;
-        let mut captured_charge = self.captured_charge;
-        let mut charge = self.charge;
-        let numbers = before.step_lent(test, rising_bits, cycle, &mut captured_charge, &mut charge);
-        NoiseGenerator {
-            numbers,
-            captured_charge,
-            charge,
+        if test {
+            return self.relax(cycle);
         }
+        self.execute_transfer(cycle).clock(rising_bits, cycle)
     }
 }
 
 // The register's methods on charges that are lent and changed where they stand, for a caller's loop.
 impl Noise {
-    fn relax_lent(
+    fn relax_once_lent(
         self,
         cycle: u64,
         captured_charge: &mut [u16; 23],
         charge: &mut [u16; 23],
     ) -> Noise
-        ensures { λ r. ⌜ generator r (now («captured_charge» .exit)) (now (charge .exit)) ≡ relaxed (generator self (now («captured_charge» .entry)) (now (charge .entry))) cycle ⌝ }
+        ensures { λ r. ⌜ generator r (now («captured_charge» .exit)) (now (charge .exit)) ≡ relaxedOnce (generator self (now («captured_charge» .entry)) (now (charge .entry))) cycle ⌝ }
     {
         let old_captured = *captured_charge;
         let old_charge = *charge;
@@ -615,7 +630,7 @@ impl Noise {
             captured_charge: old_captured,
             charge: old_charge,
         };
-        let after = before.relax(cycle);
+        let after = before.relax_once(cycle);
         let new_captured = after.captured_charge;
         let new_charge = after.charge;
         let numbers = after.numbers;
@@ -656,7 +671,8 @@ impl Noise {
         self
     }
 
-    pub fn step_lent(
+    // A chip's `step`, which relaxes by one step where one is due or more.
+    pub fn step_once_lent(
         self,
         test: bool,
         rising_bits: u32,
@@ -664,10 +680,10 @@ impl Noise {
         captured_charge: &mut [u16; 23],
         charge: &mut [u16; 23],
     ) -> Noise
-        ensures { λ r. ⌜ generator r (now («captured_charge» .exit)) (now (charge .exit)) ≡ stepped (generator self (now («captured_charge» .entry)) (now (charge .entry))) test «rising_bits» cycle ⌝ }
+        ensures { λ r. ⌜ generator r (now («captured_charge» .exit)) (now (charge .exit)) ≡ steppedOnce (generator self (now («captured_charge» .entry)) (now (charge .entry))) test «rising_bits» cycle ⌝ }
     {
         if test {
-            return self.relax_lent(cycle, captured_charge, charge);
+            return self.relax_once_lent(cycle, captured_charge, charge);
         }
         let shifted = self.execute_transfer_lent(cycle, captured_charge, charge);
         shifted.clock_lent(rising_bits, cycle, captured_charge, charge)

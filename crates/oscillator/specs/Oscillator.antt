@@ -100,13 +100,13 @@ ideal c t visible modulator =
 unfoldable pub loadsLines : Control → Bool
 loadsLines c = not (eqb (selected c .raw) 9) && needsLoading (selected c .raw)
 
--- a code with its lines loaded (waveform_at_phase)
-unfoldable pub loadedCodeBy : Ways → Control → ℕ → ℕ
-loadedCodeBy w c plain = w .load (selected c .raw) plain % 4096
+-- a code with its lines loaded, in a way (waveform_at_phase)
+unfoldable pub loadedCodeBy : (ℕ → ℕ → ℕ) → Control → ℕ → ℕ
+loadedCodeBy load c plain = load (selected c .raw) plain % 4096
 
 -- the joined lines, loaded or not (waveform_at_phase)
 unfoldable pub waveformAtBy : Ways → Control → Tone → ℕ → ℕ → ℕ
-waveformAtBy w c t visible modulator = cond (loadsLines c) (loadedCodeBy w c (ideal c t visible modulator)) (ideal c t visible modulator % 4096)
+waveformAtBy w c t visible modulator = cond (loadsLines c) (loadedCodeBy (w .load) c (ideal c t visible modulator)) (ideal c t visible modulator % 4096)
 
 -- the code: what floats where nothing is selected, else the waveforms' (evaluate_output)
 unfoldable pub codeBy : Ways → Control → Tone → ℕ → ℕ → ℕ → ℕ
@@ -313,7 +313,7 @@ abbrev pub clocked : Oscillator → ℕ → Oscillator
 clocked = clockedBy afresh
 
 abbrev pub loadedCode : Control → ℕ → ℕ
-loadedCode = loadedCodeBy afresh
+loadedCode = loadedCodeBy (afresh .load)
 
 abbrev pub waveformAt : Control → Tone → ℕ → ℕ → ℕ
 waveformAt = waveformAtBy afresh

@@ -1,10 +1,11 @@
--- The ways in which engines may differ in a tick. Every rule of a tick is stated once, over them; document 01's are
--- `afresh`, and `clocked`, `ticked` and their like, which contracts cite, are the rules at `afresh`.
+-- The ways in which engines may differ in a tick. Every rule of a tick is stated once, over them. Document 01's are
+-- `afresh`, which the names without a `By` stand for in an oscillator; a chip's are `stepwise`, for which they stand in
+-- `sid`.
 use Prim.Native.Nat.{ℕ}
 use Rattle.waveforms.specs.Waveforms.{loaded}
-use Rattle.noise.specs.Noise.{relaxed}
+use Rattle.noise.specs.Noise.{relaxed, relaxedOnce}
 use Rattle.noise.specs.declared.NoiseGenerator.{NoiseGenerator}
-use Rattle.floating.specs.Floating.{sampled}
+use Rattle.floating.specs.Floating.{sampled, sampledOnce}
 use Rattle.floating.specs.declared.FloatingBus.{FloatingBus}
 
 pub record Ways : Type 0 where
@@ -18,3 +19,8 @@ pub record Ways : Type 0 where
 -- document 01's: a code is settled, and leaks are counted, afresh on every clock (apply_line_loading, relax, sample)
 abbrev pub afresh : Ways
 afresh = record { load = loaded; recover = relaxed; leak = sampled }
+
+-- a chip's (document 02, request 12): a leak makes one step where one is due or more. `after-as-01` (calls/proofs/Leaks):
+-- a chip that was made or reset fewer than 2^63 clocks ago is document 01's
+abbrev pub stepwise : Ways
+stepwise = record { load = loaded; recover = relaxedOnce; leak = sampledOnce }

@@ -1,5 +1,6 @@
--- A field of an accepted score meets a fresh chip after as many ticks as its stamp says, all counted. Assumes nothing.
-use Prim.Native.Nat.{ℕ, _+_, _-_}
+-- A field of an accepted score meets a fresh chip after as many ticks as its stamp says, all counted; no score runs long
+-- enough for the chip's ticks to be other than document 01's. Assumes nothing.
+use Prim.Native.Nat.{ℕ, _+_, _-_, _≤_}
 use native.Mathlib.Omega.{arith}
 use mathlib.Core.Bool.{true}
 use mathlib.Core.List.{List, [], _∷_, _++_, append-nil, append-assoc}
@@ -18,13 +19,15 @@ use Rattle.score.specs.Scores.{good, scoreOf, clocksOf as Scores·clocksOf, Cha
 use Rattle.score.specs.Stamps.{admit}
 use Rattle.score.proofs.Chains.{score-chain}
 use Rattle.score.proofs.Stamps.{admits}
-use Rattle.sid.specs.Sid.{fresh as Sid·fresh, Call, called, after, clocksOf}
+use Rattle.oscillator.specs.Ways.{afresh, stepwise}
+use Rattle.calls.proofs.Leaks.{clocks-as-01}
+use Rattle.sid.specs.Sid.{fresh as Sid·fresh, Call, calledBy, afterBy, after, clocksOf}
 use Rattle.sid.proofs.Joined.{after-ticks, count-ticks}
 use Rattle.player.specs.ScoreCalls.{callThen, callsTo}
 use Rattle.player.specs.Listing.{lineOf, doneBy, atStamp, play, played, listing}
 
 after-call : (w : What) (calls : List Call) (p : Panel) → after (callThen w calls) (p .chip) ≡ after calls (doneBy w p .chip)
-unfolding after called doneBy readOf
+unfolding afterBy calledBy doneBy readOf
 after-call (Write a v) calls p = refl
 after-call (Read a) calls p = refl
 after-call Levels calls p = refl
@@ -47,14 +50,14 @@ clock-done End p = refl
 module _ (stamp : ℕ) where
   -- the chip is what the calls make of it
   pub chip-called : (fs : List Field) (p : Panel) → ranTo stamp (played fs p) .chip ≡ after (callsTo (p .clock) fs stamp) (p .chip)
-  unfolding callsTo played ranTo after
-  chip-called [] p = sym (after-ticks (stamp - p .clock) [] (p .chip))
+  unfolding callsTo played ranTo afterBy
+  chip-called [] p = sym (after-ticks stepwise (stamp - p .clock) [] (p .chip))
   chip-called (f ∷ fs) p =
       let q = atStamp f p in
       chip-called fs (doneBy (f .what) q)
       ∙ (ap (λ (n : ℕ). after (callsTo n fs stamp) (doneBy (f .what) q .chip)) (clock-done (f .what) q)
       ∙ (sym (after-call (f .what) (callsTo (q .clock) fs stamp) q)
-      ∙ sym (after-ticks (f .stamp - p .clock) (callThen (f .what) (callsTo (q .clock) fs stamp)) (p .chip))))
+      ∙ sym (after-ticks stepwise (f .stamp - p .clock) (callThen (f .what) (callsTo (q .clock) fs stamp)) (p .chip))))
 
   -- and the panel's clock counts the ticks among them
   pub clock-counts : (fs : List Field) (p : Panel) → ranTo stamp (played fs p) .clock ≡ p .clock + clocksOf (callsTo (p .clock) fs stamp)
@@ -76,6 +79,14 @@ ran-clock : {o : Order} (f : Field) {o′ : Order} → admit o f ≡ Next o′ �
 unfolding ranTo
 ran-clock f a p k = let l = admits a .not-below in omega arith
 
+-- a field as its stamp finds the panel
+record Finds (f : Field) (p : Panel) : Type 0 where
+  clock : atStamp f p .clock ≡ f .stamp
+  not-over : f .stamp ≤ 100000000
+
+found : {o : Order} (f : Field) {o′ : Order} → admit o f ≡ Next o′ → (p : Panel) → p .clock ≡ o .last → Finds f p
+found f a p k = record { clock = ran-clock f a p k; not-over = admits a .not-over }
+
 -- stamps never fall, so that each field finds the clocks of the one before
 on-stamp
     : {s : List ℕ} {at : ℕ} {o : Order} {fs : List Field}
@@ -84,30 +95,37 @@ on-stamp
     → fs ≡ xs ++ (f ∷ ys)
     → (p : Panel)
     → p .clock ≡ o .last
-    → atStamp f (played xs p) .clock ≡ f .stamp
+    → Finds f (played xs p)
 unfolding played
 on-stamp (ends {f = g} e a i) [] f ys q p k =
     let h : g ≡ f = cc in
-    subst (λ (x : Field). atStamp x p .clock ≡ x .stamp) h (ran-clock g a p k)
+    subst (λ (x : Field). Finds x p) h (found g a p k)
 on-stamp (ends e a i) (x ∷ xs) f ys q p k = absurd (omega (arith, ap length q, length-append xs (f ∷ ys)))
 on-stamp (goes {f = g} e a i r) [] f ys q p k =
     let h : g ≡ f = cc in
-    subst (λ (x : Field). atStamp x p .clock ≡ x .stamp) h (ran-clock g a p k)
+    subst (λ (x : Field). Finds x p) h (found g a p k)
 on-stamp (goes {f = g} e a i r) (x ∷ xs) f ys q p k =
     let h : g ≡ x = cc in
-    let there : atStamp x p .clock ≡ x .stamp = subst (λ (y : Field). atStamp y p .clock ≡ y .stamp) h (ran-clock g a p k) in
-    on-stamp r xs f ys (cc) (doneBy (x .what) (atStamp x p)) (clock-done (x .what) (atStamp x p) ∙ (there ∙ (ap (λ (y : Field). y .stamp) (sym h) ∙ sym (admits a .is-last))))
+    let there = subst (λ (y : Field). Finds y p) h (found g a p k) .clock in
+    on-stamp r xs f ys (cc) (doneBy (x .what) (atStamp x p))
+    (clock-done (x .what) (atStamp x p) ∙ (there ∙ (ap (λ (y : Field). y .stamp) (sym h) ∙ sym (admits a .is-last))))
 
 -- the panel that a field of an accepted score meets
 pub record Meets (xs : List Field) (f : Field) : Type 0 where
-  pub chip : atStamp f (played xs fresh) .chip ≡ after (callsTo 0 xs (f .stamp)) Sid·fresh
+  pub chip : atStamp f (played xs fresh) .chip ≡ afterBy afresh (callsTo 0 xs (f .stamp)) Sid·fresh
   pub ticks : clocksOf (callsTo 0 xs (f .stamp)) ≡ f .stamp
   pub clock : atStamp f (played xs fresh) .clock ≡ f .stamp
 
 pub stamp-clocks : (s : List ℕ) (xs : List Field) (f : Field) (ys : List Field) → scoreOf s ≡ good (xs ++ (f ∷ ys)) → Meets xs f
 stamp-clocks s xs f ys e =
-    let c = on-stamp (score-chain s e .0) xs f ys refl fresh refl in
-    record { chip = chip-called (f .stamp) xs fresh; ticks = omega (arith, clock-counts (f .stamp) xs fresh, c); clock = c }
+    let finds = on-stamp (score-chain s e .0) xs f ys refl fresh refl in
+    let calls = callsTo 0 xs (f .stamp) in
+    let ticks : clocksOf calls ≡ f .stamp = omega (arith, clock-counts (f .stamp) xs fresh, finds .clock) in
+    record {
+      chip = chip-called (f .stamp) xs fresh ∙ clocks-as-01 calls (omega (arith, ticks, finds .not-over));
+      ticks = ticks;
+      clock = finds .clock;
+    }
 
 end-line : (t : ℕ) (w : What) (p : Panel) → isEnd w ≡ true → lineOf t w p ≡ endLine (p .clock)
 unfolding lineOf

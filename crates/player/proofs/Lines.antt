@@ -1,4 +1,5 @@
--- A field's line stands in its place, and shows a fresh chip after as many ticks as its stamp says. Assumes nothing.
+-- A field's line stands in its place, and shows a fresh chip after as many ticks as its stamp says, by document 01's
+-- ways. Assumes nothing.
 use Prim.Native.Nat.{ℕ}
 use mathlib.Core.List.{List, [], _∷_, _++_, append-assoc}
 use mathlib.Core.Path.{_≡_, refl, ap, sym, _∙_}

@@ -8,8 +8,9 @@ use Rattle.panel.specs.Panel.{fresh}
 use Rattle.score.specs.declared.Field.{Field}
 use Rattle.score.specs.declared.What.{What}
 use Rattle.score.specs.declared.What.the-variants.{Write, Read, Levels, End}
+use Rattle.oscillator.specs.Ways.{afresh}
 use Rattle.sid.specs.declared.Mos6581.{Mos6581}
-use Rattle.sid.specs.Sid.{fresh as Sid·fresh, readAt, codeOf, levelOf, Call, write, read, after, ticksThen, clocksOf}
+use Rattle.sid.specs.Sid.{fresh as Sid·fresh, readAt, codeOf, levelOf, Call, write, read, afterBy, ticksThen, clocksOf}
 use Rattle.player.specs.Listing.{play}
 
 -- a field's own call, and then others
@@ -33,8 +34,8 @@ shownBy t Levels c =
 shownBy t End c = endLine t
 
 -- in a listing the line of f comes after those of the fields xs before it, and shows a fresh chip after exactly as many
--- ticks as f's stamp says, with the writes and reads of xs in between
+-- ticks as f's stamp says, by document 01's ways, with the writes and reads of xs in between
 pub record Shows (text : List ℕ) (xs : List Field) (f : Field) : Type 0 where
   pub rest : List ℕ
-  pub stands : text ≡ play xs fresh ++ (shownBy (f .stamp) (f .what) (after (callsTo 0 xs (f .stamp)) Sid·fresh) ++ rest)
+  pub stands : text ≡ play xs fresh ++ (shownBy (f .stamp) (f .what) (afterBy afresh (callsTo 0 xs (f .stamp)) Sid·fresh) ++ rest)
   pub ticks : clocksOf (callsTo 0 xs (f .stamp)) ≡ f .stamp

@@ -1,5 +1,6 @@
--- One tick of the chip, by any ways, out of its parts, which a loop may hold apart. Assumes nothing.
-use mathlib.Core.Path.{_≡_, refl, ap, ap₂, _∙_}
+-- One tick of the chip, by any ways, out of its parts, which a loop may hold apart; ways that tick each voice alike tick
+-- the chip alike (`chip-alike`). Assumes nothing.
+use mathlib.Core.Path.{_≡_, refl, ap, ap₂, sym, _∙_}
 use mathlib.Core.Bool.{Bool, true, false, cond}
 use mathlib.Core.List.{List}
 use Prim.Native.Nat.{ℕ}
@@ -15,10 +16,11 @@ use Rattle.floating.specs.Loop.{lines}
 use Rattle.floating.specs.declared.Floating.{Floating}
 use Rattle.floating.specs.declared.FloatingBus.{FloatingBus}
 use Rattle.oscillator.specs.Ways.{Ways}
-use Rattle.oscillator.specs.Oscillator.{rising, clockedTone, comparedTone, codeBy, sampledBusBy, fedBackTone, latchedTone, coupledNoise, pulledNoise, latchedNoise, resetPhase, synchronised as Oscillator·synchronised, tickedBy as Oscillator·tickedBy}
+use Rattle.oscillator.specs.Oscillator.{rising, clockedTone, comparedTone, codeBy, sampledBusBy, fedBackTone, latchedTone, coupledNoise, pulledNoise, latchedNoise, resetPhase, synchronised as Oscillator·synchronised, clockedBy as Oscillator·clockedBy, tickedBy as Oscillator·tickedBy}
 use Rattle.oscillator.specs.declared.Control.{Control}
 use Rattle.oscillator.specs.declared.Tone.{Tone}
 use Rattle.oscillator.specs.declared.Oscillator.{Oscillator}
+use Rattle.oscillator.proofs.Alike.{Alike, tick-alike}
 use Rattle.oscillator.proofs.Parts.{voice, tick-parts}
 use Rattle.sid.specs.Sid.{clockedVoiceBy, nextCycle, clockedBy, voicedBy, phaseOf, voiced0By, voiced1By, voiced2By, synchronisedIf, synced, synchronised, tickedBy}
 use Rattle.sid.specs.declared.Voice.{Voice}
@@ -103,3 +105,35 @@ module _ (ways : Ways) (c : Mos6581) (b : InternalDataBus) (cycle : ℕ) (v w x 
   unfolding tickedBy synchronised
   chip-parts o n p q r v1 w1 x1 e f g =
       ap (λ (y : Voice). with y w1 x1) e ∙ ap₂ (with (synced v x w)) f g ∙ ap synchronised (rung o n p q r)
+
+-- any voice, ticked by two ways that do the same to it
+voice-alike
+    : {ways others : Ways} (v : Voice) (cycle modulator : ℕ)
+    → Alike ways others (v .oscillator) cycle
+    → voicedBy ways (clockedVoiceBy ways v cycle) modulator cycle ≡ voicedBy others (clockedVoiceBy others v cycle) modulator cycle
+unfolding voicedBy clockedVoiceBy Oscillator·tickedBy
+voice-alike v cycle modulator same =
+    ap (λ (o : Oscillator). record { oscillator = o; envelope = Envelope·clocked (v .envelope) }) (tick-alike (v .oscillator) cycle same modulator)
+
+-- a clock of the phase is the same by all ways
+phase-alike : (ways others : Ways) (v : Voice) (cycle : ℕ) → phaseOf (clockedVoiceBy ways v cycle) ≡ phaseOf (clockedVoiceBy others v cycle)
+unfolding clockedVoiceBy Oscillator·clockedBy
+phase-alike ways others v cycle = refl
+
+pub chip-alike
+    : (ways others : Ways) (c : Mos6581)
+    → Alike ways others (c .«voice_0» .oscillator) (nextCycle c)
+    → Alike ways others (c .«voice_1» .oscillator) (nextCycle c)
+    → Alike ways others (c .«voice_2» .oscillator) (nextCycle c)
+    → tickedBy ways c ≡ tickedBy others c
+chip-alike ways others c p q r =
+    let cycle = nextCycle c in
+    let clocked : Voice → Voice = λ v. clockedVoiceBy ways v cycle in
+    let v = voicedBy ways (clocked (c .«voice_0»)) (phaseOf (clocked (c .«voice_2»))) cycle in
+    let w = voicedBy ways (clocked (c .«voice_1»)) (phaseOf v) cycle in
+    let x = voicedBy ways (clocked (c .«voice_2»)) (phaseOf w) cycle in
+    sym (chip-parts ways c _ cycle v w x refl refl refl refl refl _ _ _ refl refl refl)
+    ∙ chip-parts others c _ cycle v w x refl refl
+    (voice-alike (c .«voice_0») cycle _ p
+    ∙ ap (λ (m : ℕ). voicedBy others (clockedVoiceBy others (c .«voice_0») cycle) m cycle) (phase-alike ways others (c .«voice_2») cycle))
+    (voice-alike (c .«voice_1») cycle _ q) (voice-alike (c .«voice_2») cycle _ r) _ _ _ refl refl refl

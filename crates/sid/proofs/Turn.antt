@@ -64,7 +64,7 @@ module _ {ways : Ways} (still : Still ways) (v : Voice) where
       → After leaks (ways .leak b cycle) b (lines f1 wires1)
       → plain ≡ plainCode k t1 (n1 .visible) (f1 .value) modulator
       → loads ≡ loadsLines k
-      → After loads (loadedCodeBy ways k plain) plain output
+      → After loads (loadedCodeBy (ways .load) k plain) plain output
       → t2 ≡ latchedTone (fedBackTone (comparedTone t1 k) k output) output
       → feeds ≡ couples k
       → After feeds (coupledTo output charge1 8) charge1 charge2
@@ -83,7 +83,7 @@ module _ {ways : Ways} (still : Still ways) (v : Voice) where
       ∙ ap (λ (x : ℕ). steppedBy (ways .recover) g test x cycle) rose)
       (after-due (sampledBusBy ways b k cycle) leaks? sampled? (sample-due ways k b cycle) (sample-still still k b cycle))
       (after-due (codeBy ways k t1 (n1 .visible) (f1 .value) modulator) loads? loaded?
-      (λ h. code-loaded ways k t1 (n1 .visible) (f1 .value) modulator h ∙ ap (loadedCodeBy ways k) (sym plainly))
+      (λ h. code-loaded ways k t1 (n1 .visible) (f1 .value) modulator h ∙ ap (loadedCodeBy (ways .load) k) (sym plainly))
       (λ h. code-plain ways k t1 (n1 .visible) (f1 .value) modulator h ∙ sym plainly))
       sounded
       (coupled fed?)

@@ -11,7 +11,7 @@ use Rattle.bus.specs.Bus.{fresh as Bus·fresh, driven, clocked as Bus·clocked}
 use Rattle.bus.specs.declared.InternalDataBus.{InternalDataBus}
 use Rattle.envelope.specs.Envelope.{fresh as Envelope·fresh, reset as Envelope·reset, clocked as Envelope·clocked, attackDecaySet, sustainReleaseSet, gateSet}
 use Rattle.envelope.specs.declared.Envelope.{Envelope}
-use Rattle.oscillator.specs.Ways.{Ways, afresh}
+use Rattle.oscillator.specs.Ways.{Ways, stepwise}
 use Rattle.oscillator.specs.declared.Oscillator.{Oscillator}
 use Rattle.oscillator.specs.Oscillator.{fresh as Oscillator·fresh, clockedBy as Oscillator·clockedBy, voicedBy as Oscillator·voicedBy, written as Oscillator·written, writtenFrequencyLo, writtenFrequencyHi, writtenPulseWidthLo, writtenPulseWidthHi, readOutput, synchronised as Oscillator·synchronised}
 use Rattle.sid.specs.declared.Voice.{Voice}
@@ -189,31 +189,31 @@ tickedBy w c = synchronised (voiced2By w (voiced1By w (voiced0By w (clockedBy w 
 abbrev pub ticksBy : Ways → ℕ → Mos6581 → Mos6581
 ticksBy w n c = times n (tickedBy w) c
 
--- ---- the same by document 01's ways
+-- ---- the same by a chip's ways: 'have the chip's tick take one step' (document 02, request 12)
 
 abbrev pub clockedVoice : Voice → ℕ → Voice
-clockedVoice = clockedVoiceBy afresh
+clockedVoice = clockedVoiceBy stepwise
 
 abbrev pub clocked : Mos6581 → Mos6581
-clocked = clockedBy afresh
+clocked = clockedBy stepwise
 
 abbrev pub voiced : Voice → ℕ → ℕ → Voice
-voiced = voicedBy afresh
+voiced = voicedBy stepwise
 
 abbrev pub voiced0 : Mos6581 → Mos6581
-voiced0 = voiced0By afresh
+voiced0 = voiced0By stepwise
 
 abbrev pub voiced1 : Mos6581 → Mos6581
-voiced1 = voiced1By afresh
+voiced1 = voiced1By stepwise
 
 abbrev pub voiced2 : Mos6581 → Mos6581
-voiced2 = voiced2By afresh
+voiced2 = voiced2By stepwise
 
 abbrev pub ticked : Mos6581 → Mos6581
-ticked = tickedBy afresh
+ticked = tickedBy stepwise
 
 abbrev pub ticks : ℕ → Mos6581 → Mos6581
-ticks = ticksBy afresh
+ticks = ticksBy stepwise
 
 -- ---- 'The calls that name a voice give its code (the last latched; fresh or reset 0), its level, or whether it is held at zero.'
 
@@ -258,18 +258,25 @@ pub data Call : Type 0 where
   potX : ℕ → Call
   potY : ℕ → Call
 
-unfoldable pub called : Call → Mos6581 → Mos6581
-called (write address value) c = written c address value
-called (read address) c = readAt c address .chip
-called tick c = ticked c
-called clear c = reset c
-called (potX value) c = withPotX c value
-called (potY value) c = withPotY c value
+unfoldable pub calledBy : Ways → Call → Mos6581 → Mos6581
+calledBy w (write address value) c = written c address value
+calledBy w (read address) c = readAt c address .chip
+calledBy w tick c = tickedBy w c
+calledBy w clear c = reset c
+calledBy w (potX value) c = withPotX c value
+calledBy w (potY value) c = withPotY c value
 
 -- the chip after calls, the first first
-unfoldable pub after : List Call → Mos6581 → Mos6581
-after [] c = c
-after (call ∷ calls) c = after calls (called call c)
+unfoldable pub afterBy : Ways → List Call → Mos6581 → Mos6581
+afterBy w [] c = c
+afterBy w (call ∷ calls) c = afterBy w calls (calledBy w call c)
+
+-- by a chip's ways
+abbrev pub called : Call → Mos6581 → Mos6581
+called = calledBy stepwise
+
+abbrev pub after : List Call → Mos6581 → Mos6581
+after = afterBy stepwise
 
 -- n ticks, and then other calls
 unfoldable pub ticksThen : ℕ → List Call → List Call

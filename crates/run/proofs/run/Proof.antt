@@ -2,8 +2,8 @@
 -- The parts that the loop holds are, packed, the chip after i ticks. Its body is `tick`'s, with the same names for
 -- its places. Assumes nothing.
 use Rattle.sid.proofs.Ticks.{whole, same-generator, same-lines}
-use Rattle.oscillator.specs.Ways.{afresh}
-use Rattle.oscillator.proofs.Due.{afresh-still}
+use Rattle.oscillator.specs.Ways.{stepwise}
+use Rattle.oscillator.proofs.Due.{stepwise-still}
 use Rattle.sid.proofs.Turn.{fades, empty, parts, turn, round, ran}
 use Rattle.laws.proofs.After.{taken, left}
 use Rattle.sid.specs.Sid.{ticked, ticks}
@@ -87,7 +87,7 @@ loop-again c =
     parts (start .«voice_2» .oscillator .control) (l .tone-2) (l .noise-2) (l .captured-2) (l .charge-2)
     (l .floating-2) (l .lines-2) (l .envelope-2) in
     let voice-0 =
-    turn afresh-still from-0 _ _
+    turn stepwise-still from-0 _ _
     (steps-0 .before .before .before .clocked .ensures) (steps-0 .before .before .rising .ensures)
     (steps-0 .before .step-due .ensures)
     (⊎-elim (λ w. taken (w .0 .taken) (same-generator (w .4) (w .5) (w .6) ∙ w .3 .ensures))
@@ -105,7 +105,7 @@ loop-again c =
     (⊎-elim (λ w. taken (w .0 .taken) (same-generator (w .4) (w .5) (w .6) ∙ w .3 .ensures))
     (λ w. left (w .0 .left) (same-generator (w .1) (w .2) (w .3))) (pulls-0 .if11 .came)) in
     let voice-1 =
-    turn afresh-still from-1 _ _
+    turn stepwise-still from-1 _ _
     (steps-1 .before .before .before .clocked2 .ensures) (steps-1 .before .before .rising2 .ensures)
     (steps-1 .before .step-due2 .ensures)
     (⊎-elim (λ w. taken (w .0 .taken) (same-generator (w .4) (w .5) (w .6) ∙ w .3 .ensures))
@@ -123,7 +123,7 @@ loop-again c =
     (⊎-elim (λ w. taken (w .0 .taken) (same-generator (w .4) (w .5) (w .6) ∙ w .3 .ensures))
     (λ w. left (w .0 .left) (same-generator (w .1) (w .2) (w .3))) (pulls-1 .if15 .came)) in
     let voice-2 =
-    turn afresh-still from-2 _ _
+    turn stepwise-still from-2 _ _
     (steps-2 .before .before .before .clocked3 .ensures) (steps-2 .before .before .rising3 .ensures)
     (steps-2 .before .step-due3 .ensures)
     (⊎-elim (λ w. taken (w .0 .taken) (same-generator (w .4) (w .5) (w .6) ∙ w .3 .ensures))
@@ -143,7 +143,7 @@ loop-again c =
       omega (arith, bus .before .before .loop-test .taken),
       l .inv .1,
       rw add-one (
-          round afresh (l .cycle) from-0 from-1 from-2
+          round stepwise (l .cycle) from-0 from-1 from-2
           (⊎-elim (λ w. fades (w .2 ∙ w .1 .ensures)) (λ w. empty (w .0 .left) (w .1)) (bus .if1 .came))
           (cycle .wrapping-add-u64 .ensures) voice-0 voice-1 voice-2 (steps-2 .before .before .before .clocked3 .ensures)
           (c .synced3 .ensures) (c .before .before .synced .ensures) (c .before .synced2 .ensures)
@@ -151,7 +151,7 @@ loop-again c =
     )
 
 returns : tie.Need-returns Inv-loop μ-loop
-returns c = ran afresh _ (c .before .loop .inv .0) (c .loop-test .left) (c .before .loop .inv .2)
+returns c = ran stepwise _ (c .before .loop .inv .0) (c .loop-test .left) (c .before .loop .inv .2)
 
 pub run-spec : {M : Type 1} → statement M
 run-spec =

@@ -1,8 +1,8 @@
 -- `tick` is one clock of the chip by the rules, and gives the codes and levels that stand after it. The places along
 -- the body have names, by voice: where it pulls, couples, loads, leaks, rests and steps. Assumes nothing.
 use Rattle.sid.proofs.Ticks.{same-generator, same-lines}
-use Rattle.oscillator.specs.Ways.{afresh}
-use Rattle.oscillator.proofs.Due.{afresh-still}
+use Rattle.oscillator.specs.Ways.{stepwise}
+use Rattle.oscillator.proofs.Due.{stepwise-still}
 use Rattle.sid.proofs.Turn.{fades, empty, turn, round}
 use Rattle.laws.proofs.After.{taken, left}
 use Rattle.sid.specs.declared.Mos6581.{Mos6581}
@@ -40,7 +40,7 @@ returns c =
     bus .before .before .before .before .before .before .before .before .before .before .before .before .before .before .before
     .before .before .before .before .before .before .before .before .before .before .before .before .args .chip in
     let voice-0 =
-    turn afresh-still (start .«voice_0») _ _
+    turn stepwise-still (start .«voice_0») _ _
     (steps-0 .before .before .before .clocked .ensures) (steps-0 .before .before .rising .ensures)
     (steps-0 .before .step-due .ensures)
     (⊎-elim (λ w. taken (w .0 .taken) (same-generator (w .4) (w .5) (w .6) ∙ w .3 .ensures))
@@ -58,7 +58,7 @@ returns c =
     (⊎-elim (λ w. taken (w .0 .taken) (same-generator (w .4) (w .5) (w .6) ∙ w .3 .ensures))
     (λ w. left (w .0 .left) (same-generator (w .1) (w .2) (w .3))) (pulls-0 .if11 .came)) in
     let voice-1 =
-    turn afresh-still (start .«voice_1») _ _
+    turn stepwise-still (start .«voice_1») _ _
     (steps-1 .before .before .before .clocked2 .ensures) (steps-1 .before .before .rising2 .ensures)
     (steps-1 .before .step-due2 .ensures)
     (⊎-elim (λ w. taken (w .0 .taken) (same-generator (w .4) (w .5) (w .6) ∙ w .3 .ensures))
@@ -76,7 +76,7 @@ returns c =
     (⊎-elim (λ w. taken (w .0 .taken) (same-generator (w .4) (w .5) (w .6) ∙ w .3 .ensures))
     (λ w. left (w .0 .left) (same-generator (w .1) (w .2) (w .3))) (pulls-1 .if15 .came)) in
     let voice-2 =
-    turn afresh-still (start .«voice_2») _ _
+    turn stepwise-still (start .«voice_2») _ _
     (steps-2 .before .before .before .clocked3 .ensures) (steps-2 .before .before .rising3 .ensures)
     (steps-2 .before .step-due3 .ensures)
     (⊎-elim (λ w. taken (w .0 .taken) (same-generator (w .4) (w .5) (w .6) ∙ w .3 .ensures))
@@ -94,7 +94,7 @@ returns c =
     (⊎-elim (λ w. taken (w .0 .taken) (same-generator (w .4) (w .5) (w .6) ∙ w .3 .ensures))
     (λ w. left (w .0 .left) (same-generator (w .1) (w .2) (w .3))) (pulls-2 .if19 .came)) in
     ap outputs
-    (round afresh (start .cycle) (start .«voice_0») (start .«voice_1») (start .«voice_2»)
+    (round stepwise (start .cycle) (start .«voice_0») (start .«voice_1») (start .«voice_2»)
     (⊎-elim (λ w. fades (w .2 ∙ w .1 .ensures)) (λ w. empty (w .0 .left) (w .1)) (bus .if1 .came))
     (cycle .wrapping-add-u64 .ensures) voice-0 voice-1 voice-2 (steps-2 .before .before .before .clocked3 .ensures)
     (c .synced3 .ensures) (c .before .before .synced .ensures) (c .before .synced2 .ensures))

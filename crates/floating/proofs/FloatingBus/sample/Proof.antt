@@ -5,7 +5,7 @@ use borrow.Author.Tests.{eq-eqb, le-leb, lt-leb, ne-eqb}
 use native.Mathlib.Omega.{arith}
 use Prim.Native.Nat.{_%_, _*_, _+_, _^_}
 use mathlib.Core.Path.{_∙_, _≡_}
-use Rattle.floating.specs.Floating.{leakSteps, leaks, sampled}
+use Rattle.floating.specs.Floating.{leakSteps, leakedTimes, leaks, sampled}
 use Rattle.floating.proofs.FloatingBus.sample.Statement.{statement}
 use Rattle.floating.proofs.FloatingBus.sample.Tie as tie
 
@@ -22,7 +22,7 @@ unfolding sampled leaks
 returns-3 c = simp (ne-eqb _ _ (c .before .before .before .if1 .left), le-leb _ _ (c .before .if2 .left), lt-leb _ _ (c .if3 .taken))
 
 returns-4 : tie.Need-returns-4
-unfolding sampled leaks
+unfolding sampled leaks leakedTimes
 returns-4 c =
     let at = c .before .before .before .before .before .before .before .before .before .before .before .args .self .numbers .«next_leak» in
     let e : c .before .wrapping-add-u642 .result ≡ (at + leakSteps at (c .before .before .before .before .before .before .before .before .before .before .before .args .cycle) * 8192) % 2 ^ 64 = omega arith in

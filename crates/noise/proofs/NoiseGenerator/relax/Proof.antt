@@ -5,8 +5,7 @@ use borrow.Author.Tests.{eq-eqb, le-leb, lt-leb, ne-eqb}
 use native.Mathlib.Omega.{arith}
 use Prim.Native.Nat.{_%_, _*_, _+_, _^_}
 use mathlib.Core.Path.{_∙_, _≡_}
-use Rattle.laws.proofs.Table.{at}
-use Rattle.noise.specs.Noise.{come, leakSteps, relaxed}
+use Rattle.noise.specs.Noise.{come, leakSteps, relaxed, relaxedTimes}
 use Rattle.noise.proofs.NoiseGenerator.relax.Statement.{statement}
 use Rattle.noise.proofs.NoiseGenerator.relax.Tie as tie
 
@@ -19,7 +18,7 @@ unfolding relaxed come
 returns-2 c = simp (ne-eqb _ _ (c .before .if1 .left), lt-leb _ _ (c .if2 .taken))
 
 returns-3 : tie.Need-returns-3
-unfolding relaxed come
+unfolding relaxed relaxedTimes come
 returns-3 c =
     let at = c .before .before .before .before .before .before .before .before .args .self .numbers .«next_leak» in
     let e : c .before .wrapping-add-u642 .result ≡ (at + leakSteps at (c .before .before .before .before .before .before .before .before .args .cycle) * 65536) % 2 ^ 64 = omega arith in
