@@ -32,6 +32,10 @@ tuned c base frequency control =
 unfoldable pub scene : ℕ → Mos6581
 scene control = tuned (tuned (tuned fresh 0 0x1d45 control) 7 0x2b11 control) 14 0x0f37 control
 
+-- the same after a hundred clocks, with no waveform selected any more
+unfoldable pub afloat : ℕ → Mos6581
+afloat control = written (written (written (ticks 100 (scene control)) 0x04 0x01) 0x0b 0x01) 0x12 0x01
+
 -- the digests of n clocks, summed
 unfoldable pub summed : ℕ → Mos6581 → ℕ
 summed zero c = 0

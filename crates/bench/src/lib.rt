@@ -4,7 +4,7 @@ use sid::Mos6581;
 ghost use mathlib.Core.Path.{_≡_};
 ghost use Prim.Native.Nat.{_<_};
 ghost use Rattle.sid.specs.Sid.{fresh, ticks};
-ghost use Rattle.bench.specs.Bench.{digest as Bench·digest, heard as Bench·heard, tuned, scene as Bench·scene, summed, next as Bench·next, valueFor, stirred};
+ghost use Rattle.bench.specs.Bench.{digest as Bench·digest, heard as Bench·heard, tuned, scene as Bench·scene, afloat as Bench·afloat, summed, next as Bench·next, valueFor, stirred};
 
 fn digest(code_0: u16, code_1: u16, code_2: u16, level_0: u8, level_1: u8, level_2: u8) -> u64
     ensures { λ r. ⌜ r ≡ Bench·digest «code_0» «code_1» «code_2» «level_0» «level_1» «level_2» ⌝ }
@@ -99,7 +99,18 @@ pub extern "C" fn bench_run(control: u8, clocks: u64) -> u64
     heard(after)
 }
 
-// The same by `tick`, heard on every clock.
+// Three voices whose last codes are left on floating lines, by `run`.
+#[no_mangle]
+pub extern "C" fn bench_floats(control: u8, clocks: u64) -> u64
+    ensures { λ r. ⌜ r ≡ Bench·heard (ticks clocks (Bench·afloat control)) ⌝ }
+{
+    let chip = run::run(scene(control), 100);
+    let off = chip.write(0x04, 0x01).write(0x0b, 0x01).write(0x12, 0x01);
+    let after = run::run(off, clocks);
+    heard(after)
+}
+
+// Three voices with one control byte, by `tick`, heard on every clock.
 #[no_mangle]
 pub extern "C" fn bench_ticks(control: u8, clocks: u64) -> u64
     ensures { λ r. ⌜ r ≡ summed clocks (Bench·scene control) ⌝ }

@@ -12,6 +12,7 @@ use std::process::ExitCode;
 extern "C" {
     fn bench_idle(clocks: u64) -> u64;
     fn bench_run(control: u8, clocks: u64) -> u64;
+    fn bench_floats(control: u8, clocks: u64) -> u64;
     fn bench_ticks(control: u8, clocks: u64) -> u64;
     fn bench_writes(seed: u16, writes: u64, apart: u64) -> u64;
     fn clock() -> i64;
@@ -21,13 +22,14 @@ extern "C" {
 enum Scene {
     Idle,
     Run(u8),
+    Floats(u8),
     Ticks(u8),
     Writes(u64),
 }
 use Scene::*;
 
 /// Name, scene and the ratio that is aimed at, if any.
-const SCENES: [(&str, Scene, Option<f64>); 19] = [
+const SCENES: [(&str, Scene, Option<f64>); 20] = [
     ("run, fresh chip", Idle, Some(0.85)),
     ("run, three pulses", Run(0x41), Some(1.0)),
     ("run, three noises", Run(0x81), Some(1.0)),
@@ -38,6 +40,7 @@ const SCENES: [(&str, Scene, Option<f64>); 19] = [
     ("run, triangles, ring and sync", Run(0x17), None),
     ("run, saws", Run(0x21), None),
     ("run, pulses in test", Run(0x49), None),
+    ("run, floating lines", Floats(0x21), None),
     ("run, selection 3", Run(0x31), None),
     ("run, selection 5", Run(0x51), None),
     ("run, selection 6", Run(0x61), None),
@@ -59,6 +62,16 @@ fn scene(control: u8) -> Voices {
         for (register, value) in [(0, low), (1, high), (2, 0), (3, 8), (5, 0x29), (6, 0xa9), (4, control)] {
             voices.write(base + register, value);
         }
+    }
+    voices
+}
+
+/// Crate `bench`'s `afloat`.
+fn afloat(control: u8) -> Voices {
+    let mut voices = scene(control);
+    run(&mut voices, 100);
+    for address in [0x04, 0x0b, 0x12] {
+        voices.write(address, 0x01);
     }
     voices
 }
@@ -122,6 +135,10 @@ fn original(scene_of: Scene, clocks: u64) -> (u64, i64) {
             let mut voices = scene(control);
             timed(|| run(&mut voices, clocks))
         }
+        Floats(control) => {
+            let mut voices = afloat(control);
+            timed(|| run(&mut voices, clocks))
+        }
         Ticks(control) => {
             let mut voices = scene(control);
             timed(|| ticks(&mut voices, clocks))
@@ -138,6 +155,7 @@ fn ours(scene_of: Scene, clocks: u64) -> (u64, i64) {
         match scene_of {
             Idle => bench_idle(clocks),
             Run(control) => bench_run(control, clocks),
+            Floats(control) => bench_floats(control, clocks),
             Ticks(control) => bench_ticks(control, clocks),
             Writes(apart) => bench_writes(SEED, clocks / apart, apart),
         }
