@@ -3,8 +3,11 @@
 
 use crate::calls::{Call, Pace, Recorder};
 use crate::random::Random;
-use crate::sid::constants::NEVER;
-use crate::sid::oscillator::Oscillator;
+use crate::sid::constants::{
+    NEVER, NOISE_TEST_LEAK_INTERVAL_CYCLES, NOISE_TEST_LOGIC_THRESHOLD, WAVEFORM_FLOAT_HOLD_CYCLES,
+    WAVEFORM_FLOAT_LEAK_INTERVAL_CYCLES,
+};
+use crate::sid::oscillator::{Oscillator, OscillatorState};
 use crate::sid::sid::Mos6581;
 
 const TEST: u8 = 0x08;
@@ -15,6 +18,15 @@ const PHASE_MASK: u32 = 0xff_ffff;
 const FLOAT_TO_THE_END: u32 = 1_260_030;
 const LEAK_IN_TEST: u32 = 65_540;
 
+/// Leaks after which a code's lines hold nothing more.
+const LEAKS_OF_LINES: u32 = 15;
+/// Leaks after which a stage without any charge counts as 1.
+const LEAKS_OF_NOISE: u32 = 16;
+
+/// The high byte of a frequency at which noise shifts soon, and clocks in which 23 shifts fall then.
+const QUICK: u8 = 0xf1;
+const ALL_STAGES: u32 = 420;
+
 /// Levels that end a motion, queue a divisor, or come just before.
 const LEVELS: [u8; 14] = [
     0x00, 0x01, 0x06, 0x07, 0x0e, 0x0f, 0x1a, 0x1b, 0x36, 0x37, 0x5d, 0x5e, 0xfe, 0xff,
@@ -22,7 +34,7 @@ const LEVELS: [u8; 14] = [
 
 pub type Wanted = Box<dyn Fn(&Mos6581) -> bool>;
 
-/// The calls of a seed, some of which wait long.
+/// The calls of a seed, some of which wait long, or come where leaks fall due.
 pub fn seeded_calls(recorder: &mut Recorder, seed: u64, ticks: u64) {
     let mut random = Random::seeded(seed);
     let patience = match random.below(32) {
@@ -31,17 +43,30 @@ pub fn seeded_calls(recorder: &mut Recorder, seed: u64, ticks: u64) {
         5..=12 => 12_000,
         _ => 1_500,
     };
-    calls(recorder, &mut random, ticks, patience);
+    begin(recorder, &mut random);
+    match random.below(64) {
+        0..=2 => float(recorder, &mut random),
+        3 | 4 => recover(recorder, &mut random, Loss::Whole),
+        5..=12 => recover(recorder, &mut random, Loss::Partial),
+        13 => leak_together(recorder, &mut random),
+        _ => {}
+    }
+    go_on(recorder, &mut random, ticks, patience);
 }
 
 /// A fresh chip, and at least so many ticks, with calls aimed at what is under way in it. No wait
 /// is longer than `patience`.
 pub fn calls(recorder: &mut Recorder, random: &mut Random, ticks: u64, patience: u32) {
+    begin(recorder, random);
+    go_on(recorder, random, ticks, patience);
+}
+
+fn begin(recorder: &mut Recorder, random: &mut Random) {
     recorder.make(&[Call::New]);
     set_up(recorder, random);
-    if patience == FLOAT_TO_THE_END {
-        float(recorder, random);
-    }
+}
+
+fn go_on(recorder: &mut Recorder, random: &mut Random, ticks: u64, patience: u32) {
     let end = recorder.ticked + ticks;
     while recorder.ticked < end {
         let voice = random.below(3) as usize;
@@ -60,27 +85,224 @@ fn set_up(recorder: &mut Recorder, random: &mut Random) {
     }
 }
 
-/// A code is left to float; the selection is written again around its leaks.
+/// A code is left to float, and calls fall on the clocks of its leaks. On one of them a waveform may
+/// be selected for a while; the code that floats then is followed to its end at times.
 fn float(recorder: &mut Recorder, random: &mut Random) {
     let voice = random.below(3) as usize;
-    let address = 7 * voice as u16 + 4;
+    let address = control_address(voice);
     recorder.make(&[
         Call::Write(address - 3, random.byte() | 0x10),
         Call::Write(address, random.pick(&[0x10, 0x20, 0x30, 0x40, 0x80])),
         Call::Tick(random.below(500)),
-        Call::Write(address, random.byte() & 0x07),
     ]);
-    // One more than a code's leaks until it is gone.
-    for _ in 0..16 {
-        if recorder.chip.oscillators[voice].last_sample == 0 {
+    recorder.clock_until(Pace::Tick, 5_000, |chip| {
+        chip.oscillators[voice].last_sample != 0
+    });
+    recorder.make(&[Call::Write(address, random.byte() & 0x0f)]);
+    // The leak on which another is selected; 0 is none.
+    let mut selected_at = random.pick(&[0, 0, 0, 1, 14, 15, 15, 15]);
+    let mut leak = 0;
+    for _ in 0..2 * LEAKS_OF_LINES {
+        let Some(clocks) = recorder.chip.oscillators[voice].lines_leak_in() else {
             return;
+        };
+        leak += 1;
+        approach(recorder, clocks, random);
+        if leak == selected_at {
+            turn_briefly(recorder, voice, random.pick(&SELECTIONS) << 4, random);
+            if random.below(2) == 0 {
+                return;
+            }
+            (selected_at, leak) = (0, 0);
         }
-        recorder.clock_until(Pace::Run, FLOAT_TO_THE_END, move |chip| {
-            let state = chip.oscillators[voice].state();
-            state.bus_next_leak == state.cycle + 1
-        });
-        recorder.make(&[Call::Write(address, random.byte() & 0x07), Call::Tick(2)]);
+        match random.below(8) {
+            0 => turn_briefly(recorder, voice, TEST, random),
+            1 => {
+                let turned = control(&recorder.chip, voice) ^ TEST;
+                recorder.make(&[Call::Write(address, turned)]);
+            }
+            _ => call_beside(recorder, voice, random),
+        }
+        pass(recorder, random);
     }
+}
+
+/// How much of their charge stages have lost before they recover.
+enum Loss {
+    Whole,
+    Partial,
+}
+
+/// Stages recover in test, and calls fall on the clocks of the leaks. Test is left about the step
+/// that makes a stage count as 1 again, or the one before or after, so that each step tells.
+fn recover(recorder: &mut Recorder, random: &mut Random, loss: Loss) {
+    let voice = random.below(3) as usize;
+    let address = control_address(voice);
+    // A joined triangle grounds stages; pulse and others take some charge a clock, in test.
+    let (selection, clocks) = match loss {
+        Loss::Whole => (0x90, 100 + random.below(300)),
+        Loss::Partial => (random.pick(&[0xd8, 0xe8, 0xf8]), 10 + random.below(4)),
+    };
+    recorder.make(&[
+        Call::Write(address - 3, QUICK),
+        Call::Write(address, selection),
+        Call::Tick(clocks),
+        Call::Write(address, 0x88 | random.byte() & 0x07),
+    ]);
+    let (short, more) = random.pick(&[(1, 0), (1, 0), (2, 0), (1, 1)]);
+    let mut leaks_left = None;
+    // Charge is taken on the way now and then, and more leaks are needed.
+    for _ in 0..LEAKS_OF_NOISE + 4 {
+        let oscillator = &recorder.chip.oscillators[voice];
+        let Some(clocks) = oscillator.noise_leaks_in() else {
+            return;
+        };
+        leaks_left = match leaks_left {
+            None if steps_short(oscillator) == Some(short) => Some(more),
+            left => left.map(|leaks: u32| leaks - 1),
+        };
+        approach(recorder, clocks, random);
+        if leaks_left == Some(0) {
+            break;
+        }
+        match random.below(8) {
+            0 => turn_briefly(recorder, voice, TEST, random),
+            1 => turn_briefly(recorder, voice, 0x50, random),
+            2 => turn_briefly(recorder, voice, random.pick(&SELECTIONS) << 4, random),
+            _ => call_beside(recorder, voice, random),
+        }
+        pass(recorder, random);
+    }
+    leave_test(recorder, voice, random);
+}
+
+/// Noise of a voice and lines of a voice, the same at times, leak on one clock.
+fn leak_together(recorder: &mut Recorder, random: &mut Random) {
+    let (recovering, floating) = (random.below(3) as usize, random.below(3) as usize);
+    let (noise, lines) = (control_address(recovering), control_address(floating));
+    let flags = random.byte() & 0x07;
+    recorder.make(&[
+        Call::Write(noise - 3, QUICK),
+        Call::Write(noise, 0x90),
+        Call::Tick(100 + random.below(300)),
+        Call::Write(lines - 3, QUICK),
+        Call::Write(lines, 0x20),
+        Call::Tick(20 + random.below(200)),
+        Call::Write(lines, flags),
+        // No shift brings in a stage of 1 until the test.
+        Call::Write(noise - 4, 0),
+        Call::Write(noise - 3, 0),
+    ]);
+    let leak = random.pick(&[1, 7, 14, LEAKS_OF_LINES, LEAKS_OF_LINES, LEAKS_OF_LINES]);
+    let steps = random.pick(&[1, 15, LEAKS_OF_NOISE, LEAKS_OF_NOISE, 17]);
+    let in_test = steps * NOISE_TEST_LEAK_INTERVAL_CYCLES;
+    let selection = if recovering == floating { 0 } else { 0x80 };
+    recorder.make(&[
+        Call::Run(clocks_to_leak_of_lines(leak) - in_test),
+        Call::Write(noise, selection | TEST | flags),
+    ]);
+    approach(recorder, in_test.into(), random);
+    match random.below(4) {
+        0 => call_beside(recorder, floating, random),
+        1 => turn_briefly(recorder, recovering, TEST, random),
+        2 => turn_briefly(recorder, floating, random.pick(&SELECTIONS) << 4, random),
+        _ => {}
+    }
+    if random.below(2) == 0 {
+        pass(recorder, random);
+    }
+    leave_test(recorder, recovering, random);
+    recorder.make(&[Call::Run(2 * WAVEFORM_FLOAT_LEAK_INTERVAL_CYCLES)]);
+}
+
+/// Clocks from the selection of none to a leak of the lines, by its number from 1 on.
+fn clocks_to_leak_of_lines(number: u32) -> u32 {
+    WAVEFORM_FLOAT_HOLD_CYCLES + number * WAVEFORM_FLOAT_LEAK_INTERVAL_CYCLES
+}
+
+/// To a leak so many clocks away: just before its clock or just after it, or one clock off.
+fn approach(recorder: &mut Recorder, clocks: u64, random: &mut Random) {
+    let clocks = (clocks as u32 + random.pick(&[0, 1, 1, 2, 2, 3])).saturating_sub(2);
+    let seen = match random.below(3) {
+        0 => clocks.min(random.below(40)),
+        _ => 0,
+    };
+    recorder.make(&[Call::Run(clocks - seen), Call::Tick(seen)]);
+}
+
+/// Past the leak that was approached.
+fn pass(recorder: &mut Recorder, random: &mut Random) {
+    recorder.make(&[random.pick(&[
+        Call::Tick(4),
+        Call::Watch(0x1b, 4),
+        Call::Run(4),
+        Call::Run(2),
+    ])]);
+}
+
+/// A call that hardly ever touches a voice's selection and test.
+fn call_beside(recorder: &mut Recorder, voice: usize, random: &mut Random) {
+    let chip = &recorder.chip;
+    let address = control_address(voice);
+    let other = (voice + 1 + random.below(2) as usize) % 3;
+    let (address, value) = match random.below(8) {
+        0 => (address, control(chip, voice)),
+        1 => {
+            let flags = random.pick(&[0x01, 0x02, 0x04, 0x07]);
+            (address, control(chip, voice) ^ flags)
+        }
+        2 => {
+            let register = random.pick(&[0, 1, 2, 3, 5, 6]);
+            (address - 4 + register, random.byte())
+        }
+        3 => (control_address(other), control(chip, other) ^ TEST),
+        4 | 5 => write(chip, other, random),
+        6 => return recorder.make(&[Call::Read(any_address(random))]),
+        _ => return,
+    };
+    recorder.make(&[Call::Write(address, value)]);
+}
+
+/// Some bits of a voice's control are turned, and back after a few clocks or none.
+fn turn_briefly(recorder: &mut Recorder, voice: usize, bits: u8, random: &mut Random) {
+    let address = control_address(voice);
+    let control = control(&recorder.chip, voice);
+    recorder.make(&[
+        Call::Write(address, control ^ bits),
+        Call::Tick(random.pick(&[0, 0, 0, 1, 1, 2, 3])),
+        Call::Write(address, control),
+    ]);
+}
+
+/// Test is left, to any selection for some clocks, and noise shows all its stages.
+fn leave_test(recorder: &mut Recorder, voice: usize, random: &mut Random) {
+    let address = control_address(voice);
+    recorder.make(&[
+        Call::Write(address, random.pick(&[0x80, 0x80, 0x80, 0x90, 0xc0, 0x00])),
+        Call::Tick(random.below(4)),
+        Call::Write(address, 0x80),
+        Call::Write(address - 3, QUICK),
+        Call::Tick(ALL_STAGES),
+    ]);
+}
+
+/// Leak steps after which one more stage has charge enough to count as 1, as a copy shows.
+fn steps_short(oscillator: &Oscillator) -> Option<u32> {
+    let mut state = oscillator.state();
+    let charged = |state: &OscillatorState| {
+        let charges = state.noise_charge.iter();
+        charges
+            .filter(|&&charge| charge >= NOISE_TEST_LOGIC_THRESHOLD)
+            .count()
+    };
+    let before = charged(&state);
+    (1..=LEAKS_OF_NOISE).find(|_| {
+        state.cycle = state.noise_next_leak - 1;
+        let mut ahead = Oscillator::from_state(&state);
+        ahead.clock_accumulator();
+        state = ahead.state();
+        charged(&state) > before
+    })
 }
 
 fn wait(recorder: &mut Recorder, voice: usize, random: &mut Random, patience: u32) {
@@ -143,7 +365,7 @@ fn reset(recorder: &mut Recorder, random: &mut Random) {
 /// Another selection, or test, or both, for a few clocks, such as those of a shift under way; then
 /// the one before, noise alone, or any.
 fn select_briefly(recorder: &mut Recorder, voice: usize, random: &mut Random) {
-    let address = 7 * voice as u16 + 4;
+    let address = control_address(voice);
     let before = control(&recorder.chip, voice);
     let flags = before & 0x07;
     let mut selected = || random.pick(&SELECTIONS) << 4 | flags;
@@ -173,7 +395,7 @@ fn align(recorder: &mut Recorder, random: &mut Random) {
     for voice in 0..3 {
         let toggled = (random.byte() & 0x06) | TEST;
         let control = control(&recorder.chip, voice) ^ toggled;
-        recorder.make(&[Call::Write(7 * voice as u16 + 4, control)]);
+        recorder.make(&[Call::Write(control_address(voice), control)]);
     }
 }
 
@@ -229,14 +451,8 @@ pub fn edge(voice: usize, random: &mut Random) -> Wanted {
             let width = u32::from(oscillator.pulse_width);
             oscillator.accumulator >> 12 < width && next_phase(oscillator) >> 12 >= width
         }),
-        17 => Box::new(move |chip| {
-            let state = chip.oscillators[voice].state();
-            state.noise_next_leak == state.cycle + 1
-        }),
-        18 => Box::new(move |chip| {
-            let state = chip.oscillators[voice].state();
-            state.bus_value != 0 && state.bus_next_leak == state.cycle + 1
-        }),
+        17 => Box::new(move |chip| chip.oscillators[voice].noise_leaks_in() == Some(1)),
+        18 => Box::new(move |chip| chip.oscillators[voice].lines_leak_in() == Some(1)),
         // The sustain level that a write can bring to it.
         19 => envelope(voice, |e| {
             e.amplitude_delay == 1 && e.volume >> 4 == e.volume & 0x0f
@@ -264,8 +480,12 @@ pub fn rises(oscillator: &Oscillator, bit: u32) -> bool {
     !oscillator.test_enabled && !oscillator.accumulator & next_phase(oscillator) & bit != 0
 }
 
+fn control_address(voice: usize) -> u16 {
+    7 * voice as u16 + 4
+}
+
 /// What stands in a voice's control register.
-fn control(chip: &Mos6581, voice: usize) -> u8 {
+pub fn control(chip: &Mos6581, voice: usize) -> u8 {
     let oscillator = &chip.oscillators[voice];
     oscillator.waveform << 4
         | u8::from(oscillator.test_enabled) << 3

@@ -11,6 +11,9 @@
 //!
 //! The port has one cycle for the three voices. The original has three, and each record is made only
 //! where they agree and count the clocks since the chip was made or last reset.
+//!
+//! The port's tick makes one leak step where one is due; the original works out how many are. Each
+//! clock is made only where at most one is, in each voice and of each kind (document 02, request 12).
 
 use crate::sid::sid::Mos6581;
 
@@ -162,6 +165,7 @@ impl Recorder {
         let mut digest = 1;
         let mut clocks = 0;
         while clocks < most && !wanted(&self.chip) {
+            assert!(self.chip.leaks_by_single_steps());
             self.chip.tick();
             digest = mixed(digest, outputs(&self.chip));
             if let Pace::Watch(address) = pace {

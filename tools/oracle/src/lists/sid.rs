@@ -15,6 +15,8 @@ const AIMED_TICKS: u64 = 5_000;
 
 const FLOAT_WHOLE: u32 = 1_260_019;
 const LEAK_INTERVAL: u32 = 65_536;
+/// Clocks for which lines float before a test is entered whose 16th leak falls on their last.
+const TEST_BEFORE_LAST_LEAK: u32 = FLOAT_WHOLE + 1 - 16 * LEAK_INTERVAL;
 const TEST: u8 = 0x08;
 
 /// Places at which the registers are seen, too.
@@ -41,6 +43,7 @@ pub fn list() -> Vec<u8> {
     compare_late(&mut recorder);
     reset_in_mid_flight(&mut recorder, &mut random);
     wait_long(&mut recorder, &mut random);
+    leak_on_the_clock_of_a_call(&mut recorder);
     for _ in 0..AIMED_ROUNDS {
         aim::calls(&mut recorder, &mut random, AIMED_TICKS, 1_000);
     }
@@ -577,4 +580,200 @@ fn wait_long(recorder: &mut Recorder, random: &mut Random) {
         Code(0),
     ]);
     recorder.make(&[control(0, 0x10), Tick(3), control(0, 0x00), Tick(3)]);
+}
+
+/// Calls just before the tick that makes a leak's step, and just after it.
+fn leak_on_the_clock_of_a_call(recorder: &mut Recorder) {
+    leave_test_as_noise_recovers(recorder);
+    enter_test_again_as_noise_recovers(recorder);
+    drain_as_noise_recovers(recorder);
+    recover_as_lines_leak(recorder);
+    select_as_lines_leak(recorder);
+}
+
+/// The fewest steps that bring back a stage which has lost all charge are 16. Test is left after
+/// 14, 15 and 16, just before a leak, and after 15, 16 and 17, just after one; writes go before.
+fn leave_test_as_noise_recovers(recorder: &mut Recorder) {
+    for late in 0..2 {
+        ground_all_stages(recorder);
+        select_all(recorder, 0x88);
+        for leak in 1..=17 {
+            run_to_leak_of_noise(recorder, 2);
+            recorder.make(&[Tick(late)]);
+            if leak < 15 {
+                write_beside(recorder, 2 * leak - 2);
+                write_beside(recorder, 2 * leak - 1);
+                recorder.make(&[Tick(2)]);
+            } else {
+                let number = usize::from(leak) - 15;
+                recorder.make(&[control(number, 0x80), Tick(ALL_STAGES)]);
+            }
+        }
+    }
+    // Charge that some clocks have taken comes back sooner. The third voice leaves test and enters
+    // it again just before the leak, which is put off.
+    for (clocks, steps) in [(10, 2), (11, 3), (12, 4)] {
+        drain_all_stages(recorder, clocks);
+        for _ in 1..steps {
+            run_to_leak_of_noise(recorder, 2);
+            recorder.make(&[Tick(1)]);
+        }
+        run_to_leak_of_noise(recorder, 2);
+        recorder.make(&[
+            control(0, 0x80),
+            control(2, 0x80),
+            control(2, 0x88),
+            Tick(1),
+        ]);
+        recorder.make(&[control(1, 0x80), Tick(ALL_STAGES)]);
+        run_to_leak_of_noise(recorder, 2);
+        recorder.make(&[control(2, 0x80), Tick(ALL_STAGES)]);
+    }
+}
+
+/// Test is left and entered again on one clock just before a leak, around it, and just past it: one
+/// step fewer in two voices, and each voice has a clock of its own for those that follow.
+fn enter_test_again_as_noise_recovers(recorder: &mut Recorder) {
+    ground_all_stages(recorder);
+    select_all(recorder, 0x88);
+    run_to_leak_of_noise(recorder, 0);
+    recorder.make(&[
+        control(0, 0x80),
+        control(0, 0x88),
+        control(2, 0x80),
+        Tick(1),
+    ]);
+    recorder.make(&[
+        control(2, 0x88),
+        Tick(1),
+        control(1, 0x80),
+        control(1, 0x88),
+    ]);
+    for _ in 0..14 {
+        recorder.make(&[Run(LEAK_INTERVAL)]);
+    }
+    for _ in 0..2 {
+        recorder.make(&[Run(LEAK_INTERVAL - 4), Watch(0x1b, 4)]);
+    }
+    select_all(recorder, 0x80);
+    recorder.make(&[Tick(ALL_STAGES)]);
+}
+
+/// Pulse with noise and another takes charge on the clock before a leak, on the leak's own, or on
+/// the next: only before it little enough that the leak after it brings back the stages.
+fn drain_as_noise_recovers(recorder: &mut Recorder) {
+    drain_all_stages(recorder, 11);
+    for _ in 0..2 {
+        run_to_leak_of_noise(recorder, 0);
+        recorder.make(&[Tick(1)]);
+    }
+    recorder.make(&[Run(LEAK_INTERVAL - 2)]);
+    for number in 0..3 {
+        recorder.make(&[control(number, 0xd8), Tick(1), control(number, 0x88)]);
+    }
+    run_to_leak_of_noise(recorder, 0);
+    recorder.make(&[Tick(1)]);
+    select_all(recorder, 0x80);
+    recorder.make(&[Tick(ALL_STAGES)]);
+}
+
+/// Two codes float, with test entered or left in the second's voice on each leak; the last leak
+/// falls on the clock on which the third voice's stages come back.
+fn recover_as_lines_leak(recorder: &mut Recorder) {
+    ground_all_stages(recorder);
+    recorder.make(&[control(0, 0x20), control(1, 0x20), Tick(100)]);
+    recorder.make(&[control(0, 0x00), control(1, 0x00)]);
+    recorder.make(&[Run(TEST_BEFORE_LAST_LEAK), control(2, 0x88)]);
+    for leak in 1..=15 {
+        run_to_leak_of_lines(recorder, 0);
+        write_beside(recorder, 2 * leak);
+        recorder.make(&[control(1, (leak as u8 % 2) << 3), Tick(1)]);
+        write_beside(recorder, 2 * leak + 1);
+        recorder.make(&[Tick(1)]);
+    }
+    recorder.make(&[control(2, 0x80), Tick(ALL_STAGES)]);
+}
+
+/// A selection just before a leak, just after it, and for the leak's clock, and then none again: the
+/// lines hold anew. Two of them leak to the end as noise of the same voice recovers.
+fn select_as_lines_leak(recorder: &mut Recorder) {
+    ground_all_stages(recorder);
+    select_all(recorder, 0x20);
+    recorder.make(&[Tick(100)]);
+    select_all(recorder, 0x00);
+    for _ in 1..14 {
+        run_to_leak_of_lines(recorder, 2);
+        recorder.make(&[Tick(1)]);
+    }
+    run_to_leak_of_lines(recorder, 2);
+    recorder.make(&[control(0, 0x10), control(0, 0x00)]);
+    let captured = recorder.clocks();
+    recorder.make(&[Tick(1), control(1, 0x10), Tick(1), control(1, 0x00)]);
+    run_to_leak_of_lines(recorder, 2);
+    recorder.make(&[control(2, 0x10), Tick(1), control(2, 0x00), Tick(1)]);
+    // The first voice's leaks come two clocks before the second's now, the third's one leak later.
+    let past = (recorder.clocks() - captured) as u32;
+    recorder.make(&[Run(TEST_BEFORE_LAST_LEAK - past), control(0, 0x08), Tick(2)]);
+    recorder.make(&[control(1, 0x08)]);
+    for _ in 1..15 {
+        run_to_leak_of_lines(recorder, 0);
+        recorder.make(&[Tick(4)]);
+    }
+    run_to_leak_of_lines(recorder, 0);
+    recorder.make(&[
+        control(0, 0x00),
+        Tick(3),
+        control(1, 0x80),
+        Tick(ALL_STAGES),
+    ]);
+    recorder.make(&[control(0, 0x80), Tick(ALL_STAGES)]);
+    run_to_leak_of_lines(recorder, 2);
+    recorder.make(&[Tick(1), control(2, 0x20), Tick(2)]);
+}
+
+/// A fresh chip, in which all stages are soon shown, and each voice has a frequency of its own.
+fn renew_all_stages(recorder: &mut Recorder) {
+    recorder.make(&[New, Write(0x01, 0xf1), Write(0x08, 0xf3), Write(0x0f, 0xf5)]);
+}
+
+/// A joined triangle pulls down stages until none is left in any voice.
+fn ground_all_stages(recorder: &mut Recorder) {
+    renew_all_stages(recorder);
+    select_all(recorder, 0x90);
+    recorder.make(&[Run(2_000)]);
+}
+
+/// In each voice, pulse with noise and a triangle takes charge in test, so many clocks long.
+fn drain_all_stages(recorder: &mut Recorder, clocks: u32) {
+    renew_all_stages(recorder);
+    select_all(recorder, 0xd8);
+    recorder.make(&[Tick(clocks)]);
+    select_all(recorder, 0x88);
+}
+
+fn select_all(recorder: &mut Recorder, value: u8) {
+    recorder.make(&[control(0, value), control(1, value), control(2, value)]);
+}
+
+/// A write to a register, and to a control one of what stands in it.
+fn write_beside(recorder: &mut Recorder, register: u16) {
+    let value = match register {
+        4 | 11 | 18 => aim::control(&recorder.chip, usize::from(register / 7)),
+        _ => 0xf1,
+    };
+    recorder.make(&[Write(register, value)]);
+}
+
+/// To just before the tick on which noise leaks.
+fn run_to_leak_of_noise(recorder: &mut Recorder, number: usize) {
+    recorder.clock_until(Pace::Run, LEAK_INTERVAL, |chip| {
+        chip.oscillators[number].noise_leaks_in() == Some(1)
+    });
+}
+
+/// To just before the tick on which floating lines leak.
+fn run_to_leak_of_lines(recorder: &mut Recorder, number: usize) {
+    recorder.clock_until(Pace::Run, FLOAT_WHOLE, |chip| {
+        chip.oscillators[number].lines_leak_in() == Some(1)
+    });
 }

@@ -90,6 +90,28 @@ impl Oscillator {
         }
     }
 
+    /// Clocks to the next leak of noise in test, and to that of floating lines. These and the
+    /// question after them are asked on every clock, for which `state` copies too much.
+    pub fn noise_leaks_in(&self) -> Option<u64> {
+        let leaks = self.test_enabled && self.noise.next_leak != NEVER;
+        leaks.then(|| self.noise.next_leak.saturating_sub(self.cycle))
+    }
+
+    pub fn lines_leak_in(&self) -> Option<u64> {
+        let leak = self.bus.value != 0 && self.bus.next_leak != NEVER;
+        leak.then(|| self.bus.next_leak.saturating_sub(self.cycle))
+    }
+
+    /// Whether the next clock finds at most one leak step of each kind due. Lines that hold
+    /// something are looked at on every clock, since no waveform is selected, and hold no longer
+    /// than to their next leak.
+    pub fn leaks_by_single_steps(&self) -> bool {
+        let (noise, bus) = (&self.noise, &self.bus);
+        let looked_at = self.waveform == 0 && bus.hold_until <= bus.next_leak;
+        (!self.test_enabled || self.cycle < noise.next_leak)
+            && (bus.value == 0 || looked_at && self.cycle < bus.next_leak)
+    }
+
     /// The cycle and the 12-bit phase, which the original keeps to itself.
     pub fn cycle_shown(&self) -> u64 {
         self.cycle

@@ -1,5 +1,5 @@
-/// Beside the original chip: its bus, its oscillators' cycles, and the chip made new without its
-/// tables, which never change.
+/// Beside the original chip: its bus, its oscillators' cycles, whether their leaks come singly, and
+/// the chip made new without its tables, which never change.
 impl Mos6581 {
     pub fn bus(&self) -> &InternalDataBus {
         &self.data_bus
@@ -7,6 +7,12 @@ impl Mos6581 {
 
     pub fn cycles(&self) -> [u64; 3] {
         std::array::from_fn(|voice| self.oscillators[voice].cycle_shown())
+    }
+
+    pub fn leaks_by_single_steps(&self) -> bool {
+        self.oscillators
+            .iter()
+            .all(Oscillator::leaks_by_single_steps)
     }
 
     pub fn renew(&mut self) {
