@@ -260,7 +260,7 @@ pub one-due-reset
 unfolding reset
 one-due-reset w calls c = one-due-after w calls (reset c) 0 refl (λ _. reset-leaks w c)
 
--- ---- so a chip's calls are document 01's
+-- ---- so a chip's tick is document 01's
 
 one-alike : (o : Oscillator) (cycle : ℕ) → OneDue o cycle → Alike stepwise afresh o cycle
 one-alike o cycle h = record {
@@ -269,11 +269,32 @@ one-alike o cycle h = record {
   leak = λ _. sym (sample-once (o .bus) cycle (h .leaks));
 }
 
-pub tick-as-01 : (c : Mos6581) → c .cycle < 2 ^ 63 → ((w : Which) → Ahead w c) → ticked c ≡ tickedBy afresh c
-tick-as-01 c early h =
+-- of any chip whose next leaks lie ahead
+ahead-as-01 : (c : Mos6581) → c .cycle < 2 ^ 63 → ((w : Which) → Ahead w c) → ticked c ≡ tickedBy afresh c
+ahead-as-01 c early h =
     let alike : (w : Which) → Alike stepwise afresh (of w c .oscillator) (nextCycle c) =
     λ w. one-alike (of w c .oscillator) (nextCycle c) (due (of w c .oscillator) (c .cycle) 1 (omega arith) early (h w)) in
     chip-alike stepwise afresh c (alike voice-0) (alike voice-1) (alike voice-2)
+
+-- THE TICK of a chip that was made or reset fewer than 2^63 clocks ago is document 01's, with its loops
+pub tick-as-01-after
+    : (calls : List Call) (c : Mos6581) (n : ℕ)
+    → c .cycle ≡ n % 2 ^ 64
+    → ((w : Which) → Recent n → Ahead w c)
+    → Recent (clocksSince calls n)
+    → ticked (after calls c) ≡ tickedBy afresh (after calls c)
+tick-as-01-after calls c n e h l =
+    ahead-as-01 (after calls c) (omega (arith, cycle-counts calls c n e, l)) (λ w. leaks-after w calls c n e (h w) l)
+
+pub tick-as-01 : (calls : List Call) → Recent (clocksSince calls 0) → ticked (after calls fresh) ≡ tickedBy afresh (after calls fresh)
+unfolding fresh
+tick-as-01 calls = tick-as-01-after calls fresh 0 refl (λ w _. fresh-leaks w)
+
+pub tick-as-01-reset : (calls : List Call) (c : Mos6581) → Recent (clocksSince calls 0) → ticked (after calls (reset c)) ≡ tickedBy afresh (after calls (reset c))
+unfolding reset
+tick-as-01-reset calls c = tick-as-01-after calls (reset c) 0 refl (λ w _. reset-leaks w c)
+
+-- ---- and so are any calls of it
 
 most-least : (calls : List Call) (n : ℕ) → n ≤ mostSince calls n
 unfolding mostSince
@@ -295,7 +316,7 @@ most-clocks (clear ∷ calls) n = omega (arith, most-clocks calls 0)
 most-clocks (potX value ∷ calls) n = most-clocks calls n
 most-clocks (potY value ∷ calls) n = most-clocks calls n
 
--- THE LAW of any calls in whose course the chip is never older than that: from a chip that has counted n
+-- in whose course the chip is never older than that: from one that has counted n
 pub calls-as-01
     : (calls : List Call) (c : Mos6581) (n : ℕ)
     → c .cycle ≡ n % 2 ^ 64
@@ -311,7 +332,7 @@ calls-as-01 (read address ∷ calls) c n e h l =
 calls-as-01 (tick ∷ calls) c n e h l =
     let early : c .cycle < 2 ^ 63 = omega (arith, e, most-least calls (suc n)) in
     calls-as-01 calls _ (suc n) (tick-cycle stepwise c ∙ omega (arith, e)) (λ w. call-leaks w tick c early (h w)) l
-    ∙ ap (afterBy afresh calls) (tick-as-01 c early h)
+    ∙ ap (afterBy afresh calls) (ahead-as-01 c early h)
 calls-as-01 (clear ∷ calls) c n e h l = calls-as-01 calls _ 0 refl (λ w. reset-leaks w c) (omega (arith, l))
 calls-as-01 (potX value ∷ calls) c n e h l = calls-as-01 calls _ n e (λ w. call-leaks w (potX value) c (omega (arith, e, most-least calls n)) (h w)) l
 calls-as-01 (potY value ∷ calls) c n e h l = calls-as-01 calls _ n e (λ w. call-leaks w (potY value) c (omega (arith, e, most-least calls n)) (h w)) l
