@@ -1,4 +1,5 @@
-//! Finds the folder of the original and the archive of crate `bench` (archive.sh), and hands both to the compiler.
+//! Finds the folder of the original and the archives of crates `bench` and `bench_pack` (archive.sh), and hands them to
+//! the compiler.
 
 #[path = "../find.rs"]
 mod find;
@@ -6,6 +7,8 @@ mod find;
 use std::path::Path;
 
 const ARCHIVE_FOLDER: &str = "../../target/bench";
+
+const ARCHIVES: [&str; 2] = ["bench", "bench_pack"];
 
 /// The original's files that `src/original.rs` includes.
 const FILES: [&str; 5] = [
@@ -18,11 +21,14 @@ const FILES: [&str; 5] = [
 
 fn main() {
     find::original(&FILES);
-    match find::folder(Path::new(ARCHIVE_FOLDER), &["libbench.a"]) {
+    let files = ARCHIVES.map(|name| format!("lib{name}.a"));
+    match find::folder(Path::new(ARCHIVE_FOLDER), &files.each_ref().map(String::as_str)) {
         Ok(folder) => {
-            println!("cargo:rerun-if-changed={}", folder.join("libbench.a").display());
             println!("cargo:rustc-link-search=native={}", folder.display());
-            println!("cargo:rustc-link-lib=static=bench");
+            for (name, file) in ARCHIVES.iter().zip(&files) {
+                println!("cargo:rerun-if-changed={}", folder.join(file).display());
+                println!("cargo:rustc-link-lib=static={name}");
+            }
         }
         Err(sentence) => println!("cargo::error=Run tools/bench/archive.sh first: {sentence}"),
     }

@@ -1,16 +1,21 @@
 -- Where nothing is under way a clock is the rate counter's alone: 'the short way at the head of `clock` gives the
--- same state'. Assumes nothing.
+-- same state'; and then nothing is, unless the rate matched (`quiet-next`). Assumes nothing.
 use mathlib.Core.Path.{_≡_, refl, ap₂}
-use mathlib.Core.Bool.{Bool, true, false, _&&_, Bool·beq, false≢true}
+use mathlib.Core.Bool.{Bool, true, false, cond, not, _&&_, Bool·beq, false≢true}
 use borrow.Author.Tests.{eqb-true, eq-eqb, not-true}
-use Rattle.envelope.specs.Sets.{setGate}
+use lib.Dec.{eqb}
+use Rattle.envelope.specs.Sets.{setGate, setMatchedRate, setRatePhase}
 use Rattle.envelope.specs.declared.Envelope.{Envelope}
 use Rattle.envelope.specs.declared.GateEdge.the-variants.{Still}
-use Rattle.envelope.specs.Envelope.{levelRead, divisorCommitted, edgeOf, requestedOn, gateSampled, motionCommitted, amplitudeClocked, curveClocked, matchConsumed, rateClocked, clocked, quiescent}
+use Rattle.envelope.specs.Envelope.{levelRead, divisorCommitted, edgeOf, requestedOn, gateSampled, motionCommitted, amplitudeClocked, curveClocked, matchConsumed, phaseUp, rateClocked, clocked, quiescent}
 
 both : (a b : Bool) → (a && b) ≡ true → (a ≡ true) × (b ≡ true)
 both true b h = (refl, h)
 both false b h = absurd (false≢true h)
+
+last : (a b : Bool) → (a && b) ≡ true → (c : Bool) → (a && c) ≡ c
+last true b h c = refl
+last false b h c = absurd (false≢true h)
 
 same : (a b : Bool) → Bool·beq a b ≡ true → a ≡ b
 same true true h = refl
@@ -91,3 +96,24 @@ quiet-clock e h =
       curve-still r (q .curve),
       match-still r (q .unmatched),
     )
+
+-- all of the test but its last
+abbrev rests : Envelope → Bool
+rests e =
+    eqb (e .«queued_curve_divisor») 0
+    && Bool·beq (e .gate .input) (e .gate .«stage_a»)
+    && Bool·beq (e .gate .«stage_a») (e .gate .«stage_b»)
+    && eqb (e .«motion_delay») 0
+    && eqb (e .«amplitude_delay») 0
+    && eqb (e .«curve_delay») 0
+
+pub quiet-next : (e : Envelope) → quiescent e ≡ true → quiescent (rateClocked (levelRead e)) ≡ not (rateClocked (levelRead e) .«matched_rate»)
+unfolding quiescent rateClocked
+quiet-next e h = go (eqb (e .«rate_phase») (e .«rate_target_phase»)) (λ c. last (rests e) (not (e .«matched_rate»)) h c)
+  where
+    go : (matched : Bool)
+        → ((c : Bool) → (rests e && c) ≡ c)
+        → quiescent (cond matched (setMatchedRate (levelRead e) true) (setRatePhase (levelRead e) (phaseUp (e .«rate_phase»))))
+        ≡ not (cond matched (setMatchedRate (levelRead e) true) (setRatePhase (levelRead e) (phaseUp (e .«rate_phase»))) .«matched_rate»)
+    go true f = f false
+    go false f = f (not (e .«matched_rate»))

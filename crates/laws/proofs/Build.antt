@@ -12,7 +12,7 @@ use lib.Seq.{take-suc-set, take-all, getD-at}
 use Rattle.laws.specs.Build.{build}
 
 module _ {A : Type 0} (f : ℕ → A) where
-  length-build : (n : ℕ) → length (build f n) ≡ n
+  pub length-build : (n : ℕ) → length (build f n) ≡ n
   unfolding build
   length-build zero = refl
   length-build (suc n) = length-append (build f n) (f n ∷ []) ∙ ap (λ (m : ℕ). m + 1) (length-build n) ∙ add-one n

@@ -1,5 +1,5 @@
--- Ways that load codes alike and, where a tick looks, do the same to a voice's noise register and floating lines tick it
--- alike (`tick-alike`): what an engine has to bring to be shown equal to another. Assumes nothing.
+-- Ways that, where a tick looks, load a voice's codes alike and do the same to its noise register and floating lines tick
+-- it alike (`tick-alike`): what an engine has to bring to be shown equal to another. Assumes nothing.
 use Prim.Native.Nat.{ℕ, _%_}
 use mathlib.Core.Bool.{Bool, true, false, cond}
 use mathlib.Core.Path.{_≡_, refl, ap, sym, _∙_}
@@ -13,7 +13,8 @@ use Rattle.oscillator.specs.declared.Tone.{Tone}
 use Rattle.oscillator.specs.declared.Oscillator.{Oscillator}
 
 pub record Alike (w x : Ways) (o : Oscillator) (cycle : ℕ) : Type 0 where
-  pub load : (selection code : ℕ) → w .load selection code ≡ x .load selection code
+  -- where it loads its lines
+  pub load : loadsLines (o .control) ≡ true → (code : ℕ) → loadedCodeBy (w .load) (o .control) code ≡ loadedCodeBy (x .load) (o .control) code
   -- in test alone
   pub recover : o .control .«test_enabled» ≡ true → w .recover (o .noise) cycle ≡ x .recover (o .noise) cycle
   -- where nothing is selected
@@ -40,10 +41,15 @@ module _ {w x : Ways} (o : Oscillator) (cycle : ℕ) (same : Alike w x o cycle) 
       go false e = refl
 
   code-alike : (t : Tone) (visible floats modulator : ℕ) → codeBy w k t visible floats modulator ≡ codeBy x k t visible floats modulator
-  unfolding codeBy waveformAtBy loadedCodeBy
+  unfolding codeBy waveformAtBy
   code-alike t visible floats modulator =
       let plain = ideal k t visible modulator in
-      ap (λ (y : ℕ). cond (isOff (selected k)) (floats % 4096) (cond (loadsLines k) (y % 4096) (plain % 4096))) (same .load (selected k .raw) plain)
+      ap (λ (y : ℕ). cond (isOff (selected k)) (floats % 4096) y) (go plain (loadsLines k) refl)
+    where
+      go : (plain : ℕ) (loads : Bool) → loadsLines k ≡ loads
+          → cond loads (loadedCodeBy (w .load) k plain) (plain % 4096) ≡ cond loads (loadedCodeBy (x .load) k plain) (plain % 4096)
+      go plain true e = same .load e plain
+      go plain false e = refl
 
   pub tick-alike : (modulator : ℕ) → tickedBy w o modulator cycle ≡ tickedBy x o modulator cycle
   tick-alike modulator =

@@ -1,6 +1,6 @@
 -- A part of a tick does what its rule says where its test is true (`…-due`, `code-loaded`), and nothing where it is
 -- false (`…-still`, `code-plain`), by any ways; the way lines leak must do nothing before a leak is due (`Still`), as
--- a chip's does (`stepwise-still`). Assumes nothing.
+-- a chip's does, however it loads a code (`loading-still`). Assumes nothing.
 use Prim.Native.Nat.{ℕ, _%_, _≤_}
 use native.Mathlib.Nat.{le-refl, le-trans}
 use borrow.Author.Tests.{eqb-true}
@@ -18,7 +18,7 @@ use Rattle.noise.specs.declared.Noise.{Noise}
 use Rattle.noise.specs.declared.NoiseGenerator.{NoiseGenerator}
 use Rattle.floating.specs.Floating.{leaks, sampledOnce}
 use Rattle.floating.specs.declared.FloatingBus.{FloatingBus}
-use Rattle.oscillator.specs.Ways.{Ways, stepwise}
+use Rattle.oscillator.specs.Ways.{Ways, loading}
 use Rattle.oscillator.specs.Oscillator.{selected, ideal, waveformAtBy, codeBy, loadsLines, loadedCodeBy, sampledBusBy, couples, pullsDown, coupledNoise, pulledNoise}
 use Rattle.oscillator.specs.Loop.{plainCode, sampleDue}
 use Rattle.oscillator.specs.Selection.{isOff, has, joined, combined}
@@ -30,9 +30,9 @@ pub record Still (w : Ways) : Type 0 where
   pub recovers : Recovers (w .recover)
   pub leak-still : (b : FloatingBus) (cycle : ℕ) → leaks (b .numbers) cycle ≡ false → w .leak b cycle ≡ b
 
-pub stepwise-still : Still stepwise
+pub loading-still : (load : ℕ → ℕ → ℕ) → Still (loading load)
 unfolding sampledOnce
-stepwise-still = record { recovers = relax-still; leak-still = λ b cycle e. simp e }
+loading-still load = record { recovers = relax-still; leak-still = λ b cycle e. simp e }
 
 pub sample-due : (w : Ways) (c : Control) (b : FloatingBus) (cycle : ℕ) → sampleDue c (b .numbers) cycle ≡ true → sampledBusBy w b c cycle ≡ w .leak b cycle
 unfolding sampleDue sampledBusBy

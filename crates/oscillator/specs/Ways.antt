@@ -20,7 +20,12 @@ pub record Ways : Type 0 where
 abbrev pub afresh : Ways
 afresh = record { load = loaded; recover = relaxed; leak = sampled }
 
--- a chip's (document 02, request 12): a leak makes one step where one is due or more. `after-as-01` (calls/proofs/Leaks):
--- a chip that was made or reset fewer than 2^63 clocks ago is document 01's
+-- a chip's (document 02, request 12): a leak makes one step where one is due or more; by its own way to load a code.
+-- An engine over a pack has another (request 3)
+abbrev pub loading : (ℕ → ℕ → ℕ) → Ways
+loading load = record { load = load; recover = relaxedOnce; leak = sampledOnce }
+
+-- the plain one settles afresh. `after-as-01` (calls/proofs/Leaks): a chip that was made or reset fewer than 2^63 clocks
+-- ago is document 01's
 abbrev pub stepwise : Ways
-stepwise = record { load = loaded; recover = relaxedOnce; leak = sampledOnce }
+stepwise = loading loaded

@@ -1,8 +1,9 @@
 -- The panel: a chip and the clocks that it has run. Document 01, 'Score and program'.
 use Prim.Native.Nat.{ℕ, _+_, _-_}
+use Rattle.oscillator.specs.Ways.{Ways, stepwise}
 use Rattle.sid.specs.declared.Mos6581.{Mos6581}
 use Rattle.sid.specs.declared.Voice.{Voice}
-use Rattle.sid.specs.Sid.{fresh as Sid·fresh, ticks, written as Sid·written, readAt, codeOf, levelOf, named, Told, code, level, held, refused}
+use Rattle.sid.specs.Sid.{fresh as Sid·fresh, ticksBy, written as Sid·written, readAt, codeOf, levelOf, named, Told, code, level, held, refused}
 use Rattle.panel.specs.declared.Display.{Display}
 use Rattle.panel.specs.declared.Panel.{Panel}
 use Rattle.panel.specs.declared.PanelRead.{PanelRead}
@@ -14,8 +15,12 @@ fresh = record { chip = Sid·fresh; clock = 0 }
 
 -- 'Stamp n means after exactly n clocks of a fresh chip': the chip runs as many clocks as it lacks of the stamp, and
 -- each is counted
-unfoldable pub ranTo : ℕ → Panel → Panel
-ranTo stamp p = record { chip = ticks (stamp - p .clock) (p .chip); clock = p .clock + (stamp - p .clock) }
+unfoldable pub ranToBy : Ways → ℕ → Panel → Panel
+ranToBy w stamp p = record { chip = ticksBy w (stamp - p .clock) (p .chip); clock = p .clock + (stamp - p .clock) }
+
+-- by a chip's ways
+abbrev pub ranTo : ℕ → Panel → Panel
+ranTo = ranToBy stepwise
 
 abbrev pub written : Panel → ℕ → ℕ → Panel
 written p address value = record { chip = Sid·written (p .chip) address value; clock = p .clock }

@@ -3,7 +3,8 @@ use sid::Answer;
 use sid::Mos6581;
 ghost use mathlib.Core.Path.{_≡_};
 ghost use Rattle.sid.specs.Sid.{told};
-ghost use Rattle.panel.specs.Panel.{fresh, ranTo, written, readOf, levels, codeTold, levelTold, shownTold};
+ghost use Rattle.pack.specs.Loop.{over};
+ghost use Rattle.panel.specs.Panel.{fresh, ranToBy, written, readOf, levels, codeTold, levelTold, shownTold};
 
 pub struct Panel {
     pub chip: Mos6581,
@@ -66,14 +67,14 @@ impl Panel {
         Panel { chip, clock: 0 }
     }
 
-    // A stamp that has gone by leaves the panel as it is.
-    pub fn run_to(self, stamp: u32) -> Panel
-        ensures { λ r. ⌜ r ≡ ranTo stamp self ⌝ }
+    // A stamp that has gone by leaves the panel as it is. The codes of combined waveforms come from a lent pack.
+    pub fn run_to(self, stamp: u32, pack: &[u16]) -> Panel
+        ensures { λ r. ⌜ r ≡ ranToBy (over (now (pack .entry))) stamp self ⌝ }
     {
         let clock = self.clock;
         if clock < stamp {
             let c = self.chip;
-            let chip = run::run(c, (stamp - clock) as u64);
+            let chip = run::run_over(c, (stamp - clock) as u64, pack);
             return Panel { chip, clock: stamp };
         }
         self

@@ -1,5 +1,5 @@
--- A field of an accepted score meets a fresh chip after as many ticks as its stamp says, all counted; no score runs long
--- enough for the chip's ticks to be other than document 01's. Assumes nothing.
+-- A field of an accepted score meets a fresh chip after as many ticks as its stamp says, all counted; no score runs
+-- long enough for the chip's ticks to be other than document 01's. Assumes nothing.
 use Prim.Native.Nat.{ℕ, _+_, _-_, _≤_}
 use native.Mathlib.Omega.{arith}
 use mathlib.Core.Bool.{true}
@@ -8,7 +8,7 @@ use mathlib.Core.Path.{_≡_, refl, ap, sym, subst, _∙_}
 use lib.ListN.{length, length-append}
 use Rattle.listing.specs.Text.{endLine}
 use Rattle.panel.specs.declared.Panel.{Panel}
-use Rattle.panel.specs.Panel.{fresh, ranTo, readOf}
+use Rattle.panel.specs.Panel.{fresh, ranTo, ranToBy, readOf}
 use Rattle.score.specs.declared.Admitted.the-variants.{Next}
 use Rattle.score.specs.declared.Field.{Field}
 use Rattle.score.specs.declared.Order.{Order}
@@ -24,7 +24,7 @@ use Rattle.calls.proofs.Leaks.{clocks-as-01}
 use Rattle.sid.specs.Sid.{fresh as Sid·fresh, Call, calledBy, afterBy, after, clocksOf}
 use Rattle.sid.proofs.Joined.{after-ticks, count-ticks}
 use Rattle.player.specs.ScoreCalls.{callThen, callsTo}
-use Rattle.player.specs.Listing.{lineOf, doneBy, atStamp, play, played, listing}
+use Rattle.player.specs.Listing.{lineOf, doneBy, atStamp, play, playBy, played, playedBy, listing, listingBy}
 
 after-call : (w : What) (calls : List Call) (p : Panel) → after (callThen w calls) (p .chip) ≡ after calls (doneBy w p .chip)
 unfolding afterBy calledBy doneBy readOf
@@ -50,7 +50,7 @@ clock-done End p = refl
 module _ (stamp : ℕ) where
   -- the chip is what the calls make of it
   pub chip-called : (fs : List Field) (p : Panel) → ranTo stamp (played fs p) .chip ≡ after (callsTo (p .clock) fs stamp) (p .chip)
-  unfolding callsTo played ranTo afterBy
+  unfolding callsTo playedBy ranToBy afterBy
   chip-called [] p = sym (after-ticks stepwise (stamp - p .clock) [] (p .chip))
   chip-called (f ∷ fs) p =
       let q = atStamp f p in
@@ -61,7 +61,7 @@ module _ (stamp : ℕ) where
 
   -- and the panel's clock counts the ticks among them
   pub clock-counts : (fs : List Field) (p : Panel) → ranTo stamp (played fs p) .clock ≡ p .clock + clocksOf (callsTo (p .clock) fs stamp)
-  unfolding callsTo played ranTo clocksOf
+  unfolding callsTo playedBy ranToBy clocksOf
   clock-counts [] p = omega (arith, count-ticks (stamp - p .clock) [])
   clock-counts (f ∷ fs) p =
       let q = atStamp f p in
@@ -76,7 +76,7 @@ module _ (stamp : ℕ) where
       )
 
 ran-clock : {o : Order} (f : Field) {o′ : Order} → admit o f ≡ Next o′ → (p : Panel) → p .clock ≡ o .last → atStamp f p .clock ≡ f .stamp
-unfolding ranTo
+unfolding ranToBy
 ran-clock f a p k = let l = admits a .not-below in omega arith
 
 -- a field as its stamp finds the panel
@@ -96,7 +96,7 @@ on-stamp
     → (p : Panel)
     → p .clock ≡ o .last
     → Finds f (played xs p)
-unfolding played
+unfolding playedBy
 on-stamp (ends {f = g} e a i) [] f ys q p k =
     let h : g ≡ f = cc in
     subst (λ (x : Field). Finds x p) h (found g a p k)
@@ -146,7 +146,7 @@ closes
     → (p : Panel)
     → p .clock ≡ o .last
     → Closes (play fs p) (played fs p) (Scores·clocksOf fs)
-unfolding play played
+unfolding playBy playedBy
 closes (ends {f = f} e a i) p k =
     let q = atStamp f p in
     let c = ran-clock f a p k in
@@ -164,5 +164,5 @@ closes (goes {f = f} {fs = fs} e a i r) p k =
 
 -- `E` gives the clocks that the check answers, and they were run
 pub end-clocks : (s : List ℕ) (fs : List Field) → scoreOf s ≡ good fs → Closes (listing s) (played fs fresh) (Scores·clocksOf fs)
-unfolding listing
+unfolding listingBy
 end-clocks s fs e = rw e (closes (score-chain s e .0) fresh refl)

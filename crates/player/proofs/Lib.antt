@@ -1,4 +1,5 @@
 pub mod Clocks
+pub mod Engines
 pub mod Lines
 pub mod Loops
 pub mod Played

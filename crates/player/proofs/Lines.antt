@@ -11,12 +11,12 @@ use Rattle.score.specs.declared.What.{What}
 use Rattle.score.specs.declared.What.the-variants.{Write, Read, Levels, End}
 use Rattle.score.specs.Scores.{good, scoreOf}
 use Rattle.player.specs.ScoreCalls.{shownBy, Shows}
-use Rattle.player.specs.Listing.{lineOf, doneBy, atStamp, play, played, listingOf, listing}
+use Rattle.player.specs.Listing.{lineOf, doneBy, atStamp, play, playBy, played, playedBy, listingOf, listing, listingBy}
 use Rattle.player.proofs.Clocks.{stamp-clocks}
 
 -- the lines of fields, and of fields after them
 pub play-join : (xs ys : List Field) (p : Panel) → play (xs ++ ys) p ≡ play xs p ++ play ys (played xs p)
-unfolding play played
+unfolding playBy playedBy
 play-join [] ys p = refl
 play-join (x ∷ xs) ys p =
     let q = atStamp x p in
@@ -33,7 +33,7 @@ line-shown t Levels p k = refl
 line-shown t End p k = ap endLine k
 
 pub line-shows : (s : List ℕ) (xs : List Field) (f : Field) (ys : List Field) → scoreOf s ≡ good (xs ++ (f ∷ ys)) → Shows (listing s) xs f
-unfolding listing play
+unfolding listingBy playBy
 line-shows s xs f ys e =
     let m = stamp-clocks s xs f ys e in
     let q = atStamp f (played xs fresh) in

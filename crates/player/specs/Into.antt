@@ -5,14 +5,15 @@ use mathlib.Core.List.{List}
 use lib.Dec.{ltb}
 use lib.ListN.{length}
 use lib.Seq.{sets}
+use Rattle.oscillator.specs.Ways.{Ways}
 use Rattle.player.specs.declared.Listed.{Listed}
 use Rattle.player.specs.declared.Listed.the-variants.{Written, NoRoom}
-use Rattle.player.specs.Listing.{listing}
+use Rattle.player.specs.Listing.{listingBy}
 
 -- the listing's length, or that the room is less
-unfoldable pub intoAnswer : List ℕ → ℕ → Listed
-intoAnswer s room = cond (ltb room (length (listing s))) NoRoom (Written (length (listing s)))
+unfoldable pub intoAnswer : Ways → List ℕ → ℕ → Listed
+intoAnswer w s room = cond (ltb room (length (listingBy w s))) NoRoom (Written (length (listingBy w s)))
 
 -- the listing at the start of l; l as it was where the listing is longer
-unfoldable pub intoBuffer : List ℕ → List ℕ → List ℕ
-intoBuffer s l = cond (ltb (length l) (length (listing s))) l (sets l 0 (listing s))
+unfoldable pub intoBuffer : Ways → List ℕ → List ℕ → List ℕ
+intoBuffer w s l = cond (ltb (length l) (length (listingBy w s))) l (sets l 0 (listingBy w s))

@@ -3,9 +3,10 @@
 use Prim.Native.Nat.{ℕ}
 use mathlib.Core.List.{List, [], _∷_, _++_}
 use Rattle.listing.specs.Text.{readLine, levelsLine, endLine, refusedLine}
+use Rattle.oscillator.specs.Ways.{Ways, stepwise}
 use Rattle.panel.specs.declared.Display.{Display}
 use Rattle.panel.specs.declared.Panel.{Panel}
-use Rattle.panel.specs.Panel.{fresh, ranTo, written, readOf, levels}
+use Rattle.panel.specs.Panel.{fresh, ranToBy, written, readOf, levels}
 use Rattle.refusals.specs.Refusals.{told}
 use Rattle.score.specs.declared.Field.{Field}
 use Rattle.score.specs.declared.What.{What}
@@ -33,29 +34,49 @@ doneBy Levels p = p
 doneBy End p = p
 
 -- the panel at a field's stamp
-abbrev pub atStamp : Field → Panel → Panel
-atStamp f p = ranTo (f .stamp) p
+abbrev pub atStampBy : Ways → Field → Panel → Panel
+atStampBy w f p = ranToBy w (f .stamp) p
 
 -- 'several fields may share a stamp and run in file order', 'Fields stamped as the end do run': lines, from a panel on
-unfoldable pub play : List Field → Panel → List ℕ
-play [] p = []
-play (f ∷ fs) p = lineOf (f .stamp) (f .what) (atStamp f p) ++ play fs (doneBy (f .what) (atStamp f p))
+unfoldable pub playBy : Ways → List Field → Panel → List ℕ
+playBy w [] p = []
+playBy w (f ∷ fs) p = lineOf (f .stamp) (f .what) (atStampBy w f p) ++ playBy w fs (doneBy (f .what) (atStampBy w f p))
 
 -- the panel after fields
-unfoldable pub played : List Field → Panel → Panel
-played [] p = p
-played (f ∷ fs) p = played fs (doneBy (f .what) (atStamp f p))
+unfoldable pub playedBy : Ways → List Field → Panel → Panel
+playedBy w [] p = p
+playedBy w (f ∷ fs) p = playedBy w fs (doneBy (f .what) (atStampBy w f p))
 
 -- 'A refused score gives refused number at place alone'
-abbrev pub listingOf : Parsed → List ℕ
-listingOf (good fs) = play fs fresh
-listingOf (bad r) = refusedLine (told r)
+abbrev pub listingOfBy : Ways → Parsed → List ℕ
+listingOfBy w (good fs) = playBy w fs fresh
+listingOfBy w (bad r) = refusedLine (told r)
 
 -- 'The score is checked whole before the first clock': from a score's bytes, the bytes of its listing
-unfoldable pub listing : List ℕ → List ℕ
-listing s = listingOf (scoreOf s)
+unfoldable pub listingBy : Ways → List ℕ → List ℕ
+listingBy w s = listingOfBy w (scoreOf s)
 
 -- the panel after a score: a refused one runs no clock
+abbrev pub panelOfBy : Ways → Parsed → Panel
+panelOfBy w (good fs) = playedBy w fs fresh
+panelOfBy w (bad r) = fresh
+
+-- ---- the same by a chip's ways
+
+abbrev pub atStamp : Field → Panel → Panel
+atStamp = atStampBy stepwise
+
+abbrev pub play : List Field → Panel → List ℕ
+play = playBy stepwise
+
+abbrev pub played : List Field → Panel → Panel
+played = playedBy stepwise
+
+abbrev pub listingOf : Parsed → List ℕ
+listingOf = listingOfBy stepwise
+
+abbrev pub listing : List ℕ → List ℕ
+listing = listingBy stepwise
+
 abbrev pub panelOf : Parsed → Panel
-panelOf (good fs) = played fs fresh
-panelOf (bad r) = fresh
+panelOf = panelOfBy stepwise

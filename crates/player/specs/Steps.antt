@@ -4,6 +4,7 @@ use mathlib.Core.Bool.{Bool, true, false, cond}
 use mathlib.Core.List.{List, [], _++_}
 use mathlib.Core.Path.{_≡_}
 use Rattle.listing.specs.Text.{Put, textRoom, refusedLine}
+use Rattle.oscillator.specs.Ways.{Ways}
 use Rattle.panel.specs.declared.Panel.{Panel}
 use Rattle.panel.specs.Panel.{fresh}
 use Rattle.refusals.specs.declared.Refused.{Refused as Refusing}
@@ -19,7 +20,7 @@ use Rattle.player.specs.declared.Player.{Player}
 use Rattle.player.specs.declared.Rest.{Rest}
 use Rattle.player.specs.declared.Rest.the-variants.{Fields, Refusal, Nothing}
 use Rattle.player.specs.declared.Stepped.{Stepped}
-use Rattle.player.specs.Listing.{lineOf, doneBy, atStamp}
+use Rattle.player.specs.Listing.{lineOf, doneBy, atStampBy}
 
 abbrev pub player : Panel → Rest → Player
 player p rest = record { panel = p; rest = rest }
@@ -44,28 +45,28 @@ pub record Turn : Type 0 where
   pub text : List ℕ
 
 -- the field f, which ends before `next`
-unfoldable pub onField : Panel → Field → ℕ → Turn
-onField p f next =
+unfoldable pub onField : Ways → Panel → Field → ℕ → Turn
+onField w p f next =
     record {
-      next = player (doneBy (f .what) (atStamp f p)) (cond (isEnd (f .what)) Nothing (Fields next));
-      text = lineOf (f .stamp) (f .what) (atStamp f p);
+      next = player (doneBy (f .what) (atStampBy w f p)) (cond (isEnd (f .what)) Nothing (Fields next));
+      text = lineOf (f .stamp) (f .what) (atStampBy w f p);
     }
 
 abbrev pub onRefusal : Panel → Refusing → Turn
 onRefusal p r = record { next = player p Nothing; text = refusedLine (told r) }
 
-abbrev pub onRead : Panel → FieldRead → Turn
-onRead p (Got f next) = onField p f next
-onRead p (Refused r) = onRefusal p r
+abbrev pub onRead : Ways → Panel → FieldRead → Turn
+onRead w p (Got f next) = onField w p f next
+onRead w p (Refused r) = onRefusal p r
 
-abbrev pub turnBy : List ℕ → Panel → Rest → Turn
-turnBy s p (Fields at) = onRead p (fieldAt s at)
-turnBy s p (Refusal r) = onRefusal p r
-turnBy s p Nothing = record { next = player p Nothing; text = [] }
+abbrev pub turnBy : Ways → List ℕ → Panel → Rest → Turn
+turnBy w s p (Fields at) = onRead w p (fieldAt s at)
+turnBy w s p (Refusal r) = onRefusal p r
+turnBy w s p Nothing = record { next = player p Nothing; text = [] }
 
 -- one step
-unfoldable pub turn : List ℕ → Player → Turn
-turn s p = turnBy s (p .panel) (p .rest)
+unfoldable pub turn : Ways → List ℕ → Player → Turn
+turn w s p = turnBy w s (p .panel) (p .rest)
 
 -- what a step of the code does: the player after it, and the line at the start of the lent buffer l, which then is m
 pub record Does (t : Turn) (l : List ℕ) (r : Stepped) (m : List ℕ) : Type 0 where
@@ -74,14 +75,14 @@ pub record Does (t : Turn) (l : List ℕ) (r : Stepped) (m : List ℕ) : Type 0 
   pub fits : r .len ≤ textRoom
 
 -- the lines of n steps, joined
-unfoldable pub lines : ℕ → List ℕ → Player → List ℕ
-lines zero s p = []
-lines (suc n) s p = turn s p .text ++ lines n s (turn s p .next)
+unfoldable pub lines : Ways → ℕ → List ℕ → Player → List ℕ
+lines w zero s p = []
+lines w (suc n) s p = turn w s p .text ++ lines w n s (turn w s p .next)
 
 -- the player after n steps
-unfoldable pub after : ℕ → List ℕ → Player → Player
-after zero s p = p
-after (suc n) s p = after n s (turn s p .next)
+unfoldable pub after : Ways → ℕ → List ℕ → Player → Player
+after w zero s p = p
+after w (suc n) s p = after w n s (turn w s p .next)
 
 -- as many steps as any score takes: a field has seven bytes or more, and a score over 65,536 bytes is refused in one
 abbrev pub mostSteps : ℕ
@@ -89,8 +90,8 @@ mostSteps = 9362
 
 -- some of `steps` steps from p were made: q is the player after them, `left` are left, and their lines, `at` bytes,
 -- stand at the start of l, which now is m
-pub record Made (s : List ℕ) (p : Player) (steps : ℕ) (l : List ℕ) (q : Player) (left at : ℕ) (m : List ℕ) : Type 0 where
+pub record Made (w : Ways) (s : List ℕ) (p : Player) (steps : ℕ) (l : List ℕ) (q : Player) (left at : ℕ) (m : List ℕ) : Type 0 where
   pub made : ℕ
   pub count : made + left ≡ steps
-  pub player : q ≡ after made s p
-  pub put : Put l 0 (lines made s p) at m
+  pub player : q ≡ after w made s p
+  pub put : Put l 0 (lines w made s p) at m

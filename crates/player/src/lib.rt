@@ -1,4 +1,6 @@
 // The player of scores (document 01, 'Score and program'): one field a step, and the whole listing in a lent buffer.
+// The codes of combined waveforms come from a lent pack of settled codes. An entry that the pack lacks is settled
+// afresh, so an empty pack serves as well.
 use listing::TEXT;
 use panel::Panel;
 use refusals::Refused;
@@ -10,8 +12,9 @@ ghost use mathlib.Core.Path.{_≡_};
 ghost use Prim.Native.Nat.{_≤_};
 ghost use lib.ListN.{length};
 ghost use Rattle.listing.specs.Text.{Put};
+ghost use Rattle.pack.specs.Loop.{over};
 ghost use Rattle.player.specs.Into.{intoAnswer, intoBuffer};
-ghost use Rattle.player.specs.Listing.{listing as Listing·listing};
+ghost use Rattle.player.specs.Listing.{listingBy};
 ghost use Rattle.player.specs.Steps.{startOf, isNothing, onField, onRefusal, turn, Does};
 
 // What a player has still to do: the fields from a place on, or to tell a refusal.
@@ -53,11 +56,11 @@ fn refuse(panel: Panel, r: Refused, line: &mut [u8; TEXT]) -> Stepped
     Stepped { player, len }
 }
 
-fn play_field(panel: Panel, f: Field, next: usize, line: &mut [u8; TEXT]) -> Stepped
-    ensures { λ r. ⌜ Does (onField panel f next) (now (line .entry)) r (now (line .exit)) ⌝ }
+fn play_field(panel: Panel, f: Field, next: usize, pack: &[u16], line: &mut [u8; TEXT]) -> Stepped
+    ensures { λ r. ⌜ Does (onField (over (now (pack .entry))) panel f next) (now (line .entry)) r (now (line .exit)) ⌝ }
 {
     let stamp = f.stamp;
-    let there = panel.run_to(stamp);
+    let there = panel.run_to(stamp, pack);
     let what = f.what;
     match what {
         What::Write { address, value } => {
@@ -120,8 +123,8 @@ impl Player {
         }
     }
 
-    pub fn step(self, s: &[u8], line: &mut [u8; TEXT]) -> Stepped
-        ensures { λ r. ⌜ Does (turn (now (s .entry)) self) (now (line .entry)) r (now (line .exit)) ⌝ }
+    pub fn step(self, s: &[u8], pack: &[u16], line: &mut [u8; TEXT]) -> Stepped
+        ensures { λ r. ⌜ Does (turn (over (now (pack .entry))) (now (s .entry)) self) (now (line .entry)) r (now (line .exit)) ⌝ }
     {
         let panel = self.panel;
         let rest = self.rest;
@@ -140,7 +143,7 @@ impl Player {
                     return refuse(panel, r, line);
                 }
                 FieldRead::Got(f, next) => {
-                    return play_field(panel, f, next, line);
+                    return play_field(panel, f, next, pack, line);
                 }
             },
         }
@@ -150,8 +153,8 @@ impl Player {
 // As many steps as any score takes (`mostSteps`).
 pub const STEPS: u32 = 9362;
 
-pub fn listing_len(s: &[u8]) -> usize
-    ensures { λ r. ⌜ r ≡ length (Listing·listing (now (s .entry))) ⌝ }
+pub fn listing_len(s: &[u8], pack: &[u16]) -> usize
+    ensures { λ r. ⌜ r ≡ length (listingBy (over (now (pack .entry))) (now (s .entry))) ⌝ }
 {
     let mut p = Player::start(s);
     let mut line = [0u8; TEXT];
@@ -162,7 +165,7 @@ pub fn listing_len(s: &[u8]) -> usize
         if rest.is_nothing() {
             return total;
         }
-        let next = p.step(s, &mut line);
+        let next = p.step(s, pack, &mut line);
         total = total + next.len;
         p = next.player;
         left = left - 1;
@@ -170,9 +173,9 @@ pub fn listing_len(s: &[u8]) -> usize
     total
 }
 
-fn write_listing(s: &[u8], out: &mut [u8]) -> usize
-    requires { ⌜ length (Listing·listing (now s)) ≤ length (now out) ⌝ }
-    ensures { λ r. ⌜ Put (now (out .entry)) 0 (Listing·listing (now (s .entry))) r (now (out .exit)) ⌝ }
+fn write_listing(s: &[u8], pack: &[u16], out: &mut [u8]) -> usize
+    requires { ⌜ length (listingBy (over (now pack)) (now s)) ≤ length (now out) ⌝ }
+    ensures { λ r. ⌜ Put (now (out .entry)) 0 (listingBy (over (now (pack .entry))) (now (s .entry))) r (now (out .exit)) ⌝ }
 {
     let mut p = Player::start(s);
     let mut line = [0u8; TEXT];
@@ -183,7 +186,7 @@ fn write_listing(s: &[u8], out: &mut [u8]) -> usize
         if rest.is_nothing() {
             return at;
         }
-        let next = p.step(s, &mut line);
+        let next = p.step(s, pack, &mut line);
         let len = next.len;
         listing::copy_into(out, at, &line[..len]);
         at = at + len;
@@ -199,13 +202,13 @@ pub enum Listed {
 }
 
 // A score's listing at the start of a lent buffer; or the buffer as it was, where the listing is longer.
-pub fn listing_into(s: &[u8], out: &mut [u8]) -> Listed
-    ensures { λ r. ⌜ (r ≡ intoAnswer (now (s .entry)) (length (now (out .entry)))) × (now (out .exit) ≡ intoBuffer (now (s .entry)) (now (out .entry))) ⌝ }
+pub fn listing_into(s: &[u8], pack: &[u16], out: &mut [u8]) -> Listed
+    ensures { λ r. ⌜ (r ≡ intoAnswer (over (now (pack .entry))) (now (s .entry)) (length (now (out .entry)))) × (now (out .exit) ≡ intoBuffer (over (now (pack .entry))) (now (s .entry)) (now (out .entry))) ⌝ }
 {
-    let total = listing_len(s);
+    let total = listing_len(s, pack);
     if out.len() < total {
         return Listed::NoRoom;
     }
-    let len = write_listing(s, out);
+    let len = write_listing(s, pack, out);
     Listed::Written(len)
 }

@@ -1,6 +1,8 @@
-// Prints a score's listing through a buffer.
+// Prints a score's listing through a buffer. The codes of combined waveforms come from a lent pack, as for the player.
 use listing::TEXT;
 use player::Player;
+ghost use Rattle.oscillator.specs.Ways.{stepwise};
+ghost use Rattle.pack.specs.Loop.{over};
 ghost use Rattle.printer.specs.Fills.{Fills, Prints};
 
 // How far a buffer was filled: the player there, the steps left, and the bytes.
@@ -11,8 +13,8 @@ struct Filled {
 }
 
 // Whole lines at the start of a buffer, until nothing is left to do, no step is left, or a step's room is not left.
-fn fill(from: Player, s: &[u8], steps: u32, out: &mut [u8]) -> Filled
-    ensures { λ r. ⌜ Fills (now (s .entry)) from steps (now (out .entry)) r (now (out .exit)) ⌝ }
+fn fill(from: Player, s: &[u8], pack: &[u16], steps: u32, out: &mut [u8]) -> Filled
+    ensures { λ r. ⌜ Fills (over (now (pack .entry))) (now (s .entry)) from steps (now (out .entry)) r (now (out .exit)) ⌝ }
 {
     let mut p = from;
     let mut line = [0u8; TEXT];
@@ -35,7 +37,7 @@ fn fill(from: Player, s: &[u8], steps: u32, out: &mut [u8]) -> Filled
                 len: at,
             };
         }
-        let next = p.step(s, &mut line);
+        let next = p.step(s, pack, &mut line);
         let len = next.len;
         listing::copy_into(out, at, &line[..len]);
         at = at + len;
@@ -58,8 +60,8 @@ pub enum Printed {
 const ROOM: usize = 65536;
 
 // A write that fails ends the listing.
-pub fn print_listing(to: i32, s: &[u8]) -> Printed
-    ensures { λ r. ⌜ Prints (now (s .entry)) r ⌝ }
+pub fn print_listing(to: i32, s: &[u8], pack: &[u16]) -> Printed
+    ensures { λ r. ⌜ Prints (over (now (pack .entry))) (now (s .entry)) r ⌝ }
 {
     let mut out = [0u8; ROOM];
     let mut p = Player::start(s);
@@ -70,7 +72,7 @@ pub fn print_listing(to: i32, s: &[u8]) -> Printed
         if rest.is_nothing() {
             return Printed::Whole { len: done };
         }
-        let part = fill(p, s, left, &mut out);
+        let part = fill(p, s, pack, left, &mut out);
         let len = part.len;
         if !io::write_all(to, &out[..len]) {
             return Printed::Stopped { len: done };
@@ -80,4 +82,13 @@ pub fn print_listing(to: i32, s: &[u8]) -> Printed
         left = part.left;
     }
     Printed::Whole { len: done }
+}
+
+// All that `replay` does with a score: it fills a pack, once, and prints the listing through it.
+pub fn replay(to: i32, s: &[u8]) -> Printed
+    ensures { λ r. ⌜ Prints stepwise (now (s .entry)) r ⌝ }
+{
+    let mut pack = [0u16; pack::LENGTH];
+    pack::fill(&mut pack);
+    print_listing(to, s, &pack)
 }

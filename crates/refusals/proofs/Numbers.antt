@@ -4,13 +4,13 @@ use mathlib.Core.Path.{_≡_, refl, ap, sym, _∙_}
 use mathlib.Core.List.{[], _∷_}
 use lib.ListN.{getD}
 use Rattle.refusals.specs.declared.Refusal.{Refusal}
-use Rattle.refusals.specs.declared.Refusal.the-variants.{NoTable, TableLength, VoiceNumber, ScoreLength, FieldCut, UnknownTag, FieldLength, StampTooLate, StampFalls, AfterEnd, NoEnd}
+use Rattle.refusals.specs.declared.Refusal.the-variants.{NoTable, TableLength, VoiceNumber, ScoreLength, FieldCut, UnknownTag, FieldLength, StampTooLate, StampFalls, AfterEnd, NoEnd, PackLength}
 use Rattle.refusals.specs.declared.Refused.{Refused}
 use Rattle.refusals.specs.Refusals.{numberOf, refused, Told, told}
 
 named : ℕ → Refusal
 named n =
-    getD (NoTable ∷ TableLength ∷ VoiceNumber ∷ ScoreLength ∷ FieldCut ∷ UnknownTag ∷ FieldLength ∷ StampTooLate ∷ StampFalls ∷ AfterEnd ∷ []) (n - 1) NoEnd
+    getD (NoTable ∷ TableLength ∷ VoiceNumber ∷ ScoreLength ∷ FieldCut ∷ UnknownTag ∷ FieldLength ∷ StampTooLate ∷ StampFalls ∷ AfterEnd ∷ NoEnd ∷ []) (n - 1) PackLength
 
 named-number : (r : Refusal) → named (numberOf r) ≡ r
 unfolding named
@@ -25,6 +25,7 @@ named-number StampTooLate = refl
 named-number StampFalls = refl
 named-number AfterEnd = refl
 named-number NoEnd = refl
+named-number PackLength = refl
 
 pub number-tells : (a b : Refusal) → numberOf a ≡ numberOf b → a ≡ b
 number-tells a b e = sym (named-number a) ∙ ap named e ∙ named-number b

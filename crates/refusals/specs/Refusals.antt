@@ -3,7 +3,7 @@
 use Prim.Native.Nat.{ℕ}
 use Rattle.refusals.specs.declared.Refused.{Refused}
 use Rattle.refusals.specs.declared.Refusal.{Refusal}
-use Rattle.refusals.specs.declared.Refusal.the-variants.{NoTable, TableLength, VoiceNumber, ScoreLength, FieldCut, UnknownTag, FieldLength, StampTooLate, StampFalls, AfterEnd, NoEnd}
+use Rattle.refusals.specs.declared.Refusal.the-variants.{NoTable, TableLength, VoiceNumber, ScoreLength, FieldCut, UnknownTag, FieldLength, StampTooLate, StampFalls, AfterEnd, NoEnd, PackLength}
 
 abbrev pub numberOf : Refusal → ℕ
 -- table for a selection above 15 or with under two bits; place 0
@@ -28,6 +28,8 @@ numberOf StampFalls = 9
 numberOf AfterEnd = 10
 -- no end field, empty score included; place: the score's length
 numberOf NoEnd = 11
+-- document 02: pack not 45,056 entries; place 0
+numberOf PackLength = 15
 
 -- a refusal at its place
 abbrev pub refused : Refusal → ℕ → Refused

@@ -14,6 +14,7 @@ pub enum Refusal {
     StampFalls,
     AfterEnd,
     NoEnd,
+    PackLength,
 }
 
 // What a refused call answers.
@@ -37,5 +38,6 @@ pub fn number(r: Refusal) -> u8
         Refusal::StampFalls => 9,
         Refusal::AfterEnd => 10,
         Refusal::NoEnd => 11,
+        Refusal::PackLength => 15,
     }
 }

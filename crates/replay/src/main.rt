@@ -3,5 +3,5 @@
 fn main() {
     let mut score = [0u8; 65537];
     let n = io::read_full(0, &mut score);
-    printer::print_listing(1, &score[..n]);
+    printer::replay(1, &score[..n]);
 }

@@ -12,14 +12,14 @@ fn read_score(file: i32, length: usize, score: &mut [u8]) -> usize
     io::read_full(file, &mut score[..length])
 }
 
-fn print_score(number: u64, score: &[u8]) {
+fn print_score(number: u64, score: &[u8], pack: &[u16]) {
     io::write_all(1, b"score ");
     io::print_decimal(1, number);
     io::write_all(1, b"\n");
-    printer::print_listing(1, score);
+    printer::print_listing(1, score, pack);
 }
 
-fn replay(file: i32) {
+fn replay(file: i32, pack: &[u16]) {
     let mut head = [0u8; 4];
     let mut score = [0u8; 65537];
     let mut number: u64 = 0;
@@ -30,7 +30,7 @@ fn replay(file: i32) {
         }
         let length = words::u32_at(&head, 0) as usize;
         let n = read_score(file, length, &mut score);
-        print_score(number, &score[..n]);
+        print_score(number, &score[..n], pack);
         number = number + 1;
     }
 }
@@ -41,6 +41,8 @@ fn main() {
         os::fail(b"scores");
         return;
     }
-    replay(file);
+    let mut pack = [0u16; pack::LENGTH];
+    pack::fill(&mut pack);
+    replay(file, &pack);
     libc::close(file);
 }

@@ -3,13 +3,53 @@
 use floating::FloatingBus;
 use noise::NoiseGenerator;
 use oscillator::Oscillator;
+use refusals::Refusal;
+use refusals::Refused;
 use sid::Mos6581;
 use sid::Voice;
+use tables::Filled;
 ghost use mathlib.Core.Path.{_≡_};
-ghost use Rattle.sid.specs.Sid.{ticks};
+ghost use lib.ListN.{length};
+ghost use Rattle.tables.specs.Tables.{told};
+ghost use Rattle.sid.specs.Sid.{ticks, ticksBy};
+ghost use Rattle.pack.specs.Pack.{refusal};
+ghost use Rattle.pack.specs.Loop.{over};
+ghost use Rattle.run.specs.Answers.{packRan};
+
+// What a run over a pack gives: where it is refused, the chip as it was.
+pub struct PackRan {
+    pub chip: Mos6581,
+    pub answer: Filled,
+}
 
 pub fn run(chip: Mos6581, n: u64) -> Mos6581
     ensures { λ r. ⌜ r ≡ ticks n chip ⌝ }
+{
+    let none = [0u16; 0];
+    run_over(chip, n, &none)
+}
+
+pub fn run_packed(chip: Mos6581, n: u64, pack: &[u16]) -> PackRan
+    ensures { λ r. ⌜ (r .chip ≡ packRan (now (pack .entry)) n chip) × (told (r .answer) ≡ refusal (length (now (pack .entry)))) ⌝ }
+{
+    if pack.len() != pack::LENGTH {
+        return PackRan {
+            chip,
+            answer: Filled::Refused(Refused {
+                why: Refusal::PackLength,
+                place: 0,
+            }),
+        };
+    }
+    PackRan {
+        chip: run_over(chip, n, pack),
+        answer: Filled::Done,
+    }
+}
+
+// Over a pack of any length: where it lacks the entry of a code, the code is settled afresh.
+pub fn run_over(chip: Mos6581, n: u64, pack: &[u16]) -> Mos6581
+    ensures { λ r. ⌜ r ≡ ticksBy (over (now (pack .entry))) n chip ⌝ }
 {
     let mut data_bus = chip.data_bus;
     let mut cycle = chip.cycle;
@@ -37,6 +77,13 @@ pub fn run(chip: Mos6581, n: u64) -> Mos6581
     let mut floating_2 = chip.voice_2.oscillator.bus.numbers;
     let mut lines_2 = chip.voice_2.oscillator.bus.charge;
     let mut envelope_2 = chip.voice_2.envelope;
+    let base_0 = pack::base(control_0);
+    let base_1 = pack::base(control_1);
+    let base_2 = pack::base(control_2);
+    let syncs = control_0.sync_enabled | control_1.sync_enabled | control_2.sync_enabled;
+    let mut quiet_0 = envelope_0.quiescent();
+    let mut quiet_1 = envelope_1.quiescent();
+    let mut quiet_2 = envelope_2.quiescent();
     let mut i: u64 = 0;
     while i < n {
         // the bus
@@ -83,20 +130,26 @@ pub fn run(chip: Mos6581, n: u64) -> Mos6581
             );
         }
         // three envelopes
-        if envelope_0.quiescent() {
+        if quiet_0 {
             envelope_0 = envelope_0.clock_quiet();
+            quiet_0 = !envelope_0.matched_rate;
         } else {
             envelope_0 = envelope_0.clock();
+            quiet_0 = envelope_0.quiescent();
         }
-        if envelope_1.quiescent() {
+        if quiet_1 {
             envelope_1 = envelope_1.clock_quiet();
+            quiet_1 = !envelope_1.matched_rate;
         } else {
             envelope_1 = envelope_1.clock();
+            quiet_1 = envelope_1.quiescent();
         }
-        if envelope_2.quiescent() {
+        if quiet_2 {
             envelope_2 = envelope_2.clock_quiet();
+            quiet_2 = !envelope_2.matched_rate;
         } else {
             envelope_2 = envelope_2.clock();
+            quiet_2 = envelope_2.quiescent();
         }
         // the voices in ring order: code, feedback, latch
         if control_0.sample_due(floating_0, cycle) {
@@ -109,7 +162,12 @@ pub fn run(chip: Mos6581, n: u64) -> Mos6581
             tone_2.accumulator,
         );
         if control_0.loads_lines() {
-            code_0 = control_0.loaded_code(code_0);
+            let at_0 = pack::entry(base_0, code_0);
+            if at_0 < pack.len() {
+                code_0 = pack[at_0] % 4096;
+            } else {
+                code_0 = control_0.loaded_code(code_0);
+            }
         }
         tone_0 = tone_0.sounded(control_0, code_0);
         if control_0.couples() {
@@ -128,7 +186,12 @@ pub fn run(chip: Mos6581, n: u64) -> Mos6581
             tone_0.accumulator,
         );
         if control_1.loads_lines() {
-            code_1 = control_1.loaded_code(code_1);
+            let at_1 = pack::entry(base_1, code_1);
+            if at_1 < pack.len() {
+                code_1 = pack[at_1] % 4096;
+            } else {
+                code_1 = control_1.loaded_code(code_1);
+            }
         }
         tone_1 = tone_1.sounded(control_1, code_1);
         if control_1.couples() {
@@ -147,7 +210,12 @@ pub fn run(chip: Mos6581, n: u64) -> Mos6581
             tone_1.accumulator,
         );
         if control_2.loads_lines() {
-            code_2 = control_2.loaded_code(code_2);
+            let at_2 = pack::entry(base_2, code_2);
+            if at_2 < pack.len() {
+                code_2 = pack[at_2] % 4096;
+            } else {
+                code_2 = control_2.loaded_code(code_2);
+            }
         }
         tone_2 = tone_2.sounded(control_2, code_2);
         if control_2.couples() {
@@ -157,74 +225,64 @@ pub fn run(chip: Mos6581, n: u64) -> Mos6581
             noise_2 = noise_2.pull_down_lent(code_2, cycle, &mut captured_2, &mut charge_2);
         }
         // synchronisation
-        let next_1 = sid::synced(tone_1, control_1, tone_0, control_0, tone_2);
-        let next_2 = sid::synced(tone_2, control_2, tone_1, control_1, tone_0);
-        tone_0 = sid::synced(tone_0, control_0, tone_2, control_2, tone_1);
-        tone_1 = next_1;
-        tone_2 = next_2;
+        if syncs {
+            let next_1 = sid::synced(tone_1, control_1, tone_0, control_0, tone_2);
+            let next_2 = sid::synced(tone_2, control_2, tone_1, control_1, tone_0);
+            tone_0 = sid::synced(tone_0, control_0, tone_2, control_2, tone_1);
+            tone_1 = next_1;
+            tone_2 = next_2;
+        }
         i += 1;
     }
-    let noise = NoiseGenerator {
-        numbers: noise_0,
-        captured_charge: captured_0,
-        charge: charge_0,
-    };
-    let floats = FloatingBus {
-        numbers: floating_0,
-        charge: lines_0,
-    };
-    let oscillator = Oscillator {
-        control: control_0,
-        tone: tone_0,
-        noise,
-        bus: floats,
-    };
-    let voice_0 = Voice {
-        oscillator,
-        envelope: envelope_0,
-    };
-    let noise = NoiseGenerator {
-        numbers: noise_1,
-        captured_charge: captured_1,
-        charge: charge_1,
-    };
-    let floats = FloatingBus {
-        numbers: floating_1,
-        charge: lines_1,
-    };
-    let oscillator = Oscillator {
-        control: control_1,
-        tone: tone_1,
-        noise,
-        bus: floats,
-    };
-    let voice_1 = Voice {
-        oscillator,
-        envelope: envelope_1,
-    };
-    let noise = NoiseGenerator {
-        numbers: noise_2,
-        captured_charge: captured_2,
-        charge: charge_2,
-    };
-    let floats = FloatingBus {
-        numbers: floating_2,
-        charge: lines_2,
-    };
-    let oscillator = Oscillator {
-        control: control_2,
-        tone: tone_2,
-        noise,
-        bus: floats,
-    };
-    let voice_2 = Voice {
-        oscillator,
-        envelope: envelope_2,
-    };
     Mos6581 {
-        voice_0,
-        voice_1,
-        voice_2,
+        voice_0: Voice {
+            oscillator: Oscillator {
+                control: control_0,
+                noise: NoiseGenerator {
+                    numbers: noise_0,
+                    captured_charge: captured_0,
+                    charge: charge_0,
+                },
+                bus: FloatingBus {
+                    numbers: floating_0,
+                    charge: lines_0,
+                },
+                tone: tone_0,
+            },
+            envelope: envelope_0,
+        },
+        voice_1: Voice {
+            oscillator: Oscillator {
+                control: control_1,
+                noise: NoiseGenerator {
+                    numbers: noise_1,
+                    captured_charge: captured_1,
+                    charge: charge_1,
+                },
+                bus: FloatingBus {
+                    numbers: floating_1,
+                    charge: lines_1,
+                },
+                tone: tone_1,
+            },
+            envelope: envelope_1,
+        },
+        voice_2: Voice {
+            oscillator: Oscillator {
+                control: control_2,
+                noise: NoiseGenerator {
+                    numbers: noise_2,
+                    captured_charge: captured_2,
+                    charge: charge_2,
+                },
+                bus: FloatingBus {
+                    numbers: floating_2,
+                    charge: lines_2,
+                },
+                tone: tone_2,
+            },
+            envelope: envelope_2,
+        },
         data_bus,
         pot_x: chip.pot_x,
         pot_y: chip.pot_y,

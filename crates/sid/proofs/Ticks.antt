@@ -1,9 +1,10 @@
 -- One tick of the chip, by any ways, out of its parts, which a loop may hold apart; ways that tick each voice alike tick
--- the chip alike (`chip-alike`). Assumes nothing.
+-- the chip alike (`chip-alike`), any number of times (`ticks-alike`). Assumes nothing.
 use mathlib.Core.Path.{_≡_, refl, ap, ap₂, sym, _∙_}
 use mathlib.Core.Bool.{Bool, true, false, cond}
 use mathlib.Core.List.{List}
-use Prim.Native.Nat.{ℕ}
+use Prim.Native.Nat.{ℕ, zero, suc}
+use Rattle.laws.specs.Times.{times}
 use Rattle.bus.specs.Bus.{clocked as Bus·clocked}
 use Rattle.bus.specs.declared.InternalDataBus.{InternalDataBus}
 use Rattle.envelope.specs.Envelope.{clocked as Envelope·clocked}
@@ -22,7 +23,7 @@ use Rattle.oscillator.specs.declared.Tone.{Tone}
 use Rattle.oscillator.specs.declared.Oscillator.{Oscillator}
 use Rattle.oscillator.proofs.Alike.{Alike, tick-alike}
 use Rattle.oscillator.proofs.Parts.{voice, tick-parts}
-use Rattle.sid.specs.Sid.{clockedVoiceBy, nextCycle, clockedBy, voicedBy, phaseOf, voiced0By, voiced1By, voiced2By, synchronisedIf, synced, synchronised, tickedBy}
+use Rattle.sid.specs.Sid.{clockedVoiceBy, nextCycle, clockedBy, voicedBy, phaseOf, voiced0By, voiced1By, voiced2By, synchronisedIf, synced, synchronised, tickedBy, ticksBy}
 use Rattle.sid.specs.declared.Voice.{Voice}
 use Rattle.sid.specs.declared.Mos6581.{Mos6581}
 
@@ -137,3 +138,10 @@ chip-alike ways others c p q r =
     (voice-alike (c .«voice_0») cycle _ p
     ∙ ap (λ (m : ℕ). voicedBy others (clockedVoiceBy others (c .«voice_0») cycle) m cycle) (phase-alike ways others (c .«voice_2») cycle))
     (voice-alike (c .«voice_1») cycle _ q) (voice-alike (c .«voice_2») cycle _ r) _ _ _ refl refl refl
+
+-- ways that tick every chip alike do so any number of times
+pub ticks-alike
+    : (ways others : Ways) → ((c : Mos6581) → tickedBy ways c ≡ tickedBy others c) → (n : ℕ) (c : Mos6581) → ticksBy ways n c ≡ ticksBy others n c
+unfolding times
+ticks-alike ways others same zero c = refl
+ticks-alike ways others same (suc n) c = same (ticksBy ways n c) ∙ ap (tickedBy others) (ticks-alike ways others same n c)

@@ -1,9 +1,11 @@
 -- One tick of a voice, and of the chip, by any ways that are `Still`, follows from what code over their parts knows of
 -- it: what each call ensures, and by which way each branch came. Assumes nothing.
 use mathlib.Core.Path.{_≡_, refl, ap, sym, _∙_}
-use mathlib.Core.Bool.{Bool, cond}
+use mathlib.Core.Bool.{Bool, true, false, cond, not, _&&_}
 use mathlib.Core.List.{List}
-use Prim.Native.Nat.{ℕ, _≤_}
+use Prim.Native.Nat.{ℕ, _+_, _≤_}
+use native.Mathlib.Numerals.{add-one}
+use Rattle.laws.specs.Times.{times}
 use Rattle.laws.specs.Cycle.{after as Cycle·after}
 use Rattle.laws.proofs.After.{After, taken, left, after-due}
 use Rattle.laws.proofs.Loops.{ended}
@@ -103,6 +105,33 @@ faded : {b b1 : InternalDataBus} → Fade b b1 → b1 ≡ Bus·clocked b
 faded (fades p) = p
 faded {b} (empty h p) = p ∙ sym (clocked-empty b h)
 
+-- synchronisation, which leaves the three voices alone where none has it on
+abbrev synced : Tone → Control → Tone → Control → Tone → Tone
+synced t k source sourceControl before =
+    cond (syncs (source .«msb_rising») (k .«sync_enabled») (sourceControl .«sync_enabled») (before .«msb_rising»)) (resetPhase t) t
+
+pub data Sync (k0 k1 k2 : Control) (t0 t1 t2 u0 u1 u2 : Tone) : Type 0 where
+  judged : u0 ≡ synced t0 k0 t2 k2 t1 → u1 ≡ synced t1 k1 t0 k0 t2 → u2 ≡ synced t2 k2 t1 k1 t0 → Sync k0 k1 k2 t0 t1 t2 u0 u1 u2
+  off
+      : k0 .«sync_enabled» ≡ false → k1 .«sync_enabled» ≡ false → k2 .«sync_enabled» ≡ false
+      → u0 ≡ t0 → u1 ≡ t1 → u2 ≡ t2 → Sync k0 k1 k2 t0 t1 t2 u0 u1 u2
+
+sync-off : (t : Tone) (k : Control) (source : Tone) (sourceControl : Control) (before : Tone) → k .«sync_enabled» ≡ false → t ≡ synced t k source sourceControl before
+unfolding syncs
+sync-off t k source sourceControl before e = go (source .«msb_rising») (k .«sync_enabled») e
+  where
+    go : (rises sync : Bool) → sync ≡ false
+        → t ≡ cond (rises && (sync && not (sourceControl .«sync_enabled» && before .«msb_rising»))) (resetPhase t) t
+    go true sync e = rw e
+    go false sync e = refl
+
+judgement
+    : {k0 k1 k2 : Control} {t0 t1 t2 u0 u1 u2 : Tone} → Sync k0 k1 k2 t0 t1 t2 u0 u1 u2
+    → (u0 ≡ synced t0 k0 t2 k2 t1) × (u1 ≡ synced t1 k1 t0 k0 t2) × (u2 ≡ synced t2 k2 t1 k1 t0)
+judgement (judged f g h) = (f, g, h)
+judgement {k0} {k1} {k2} {t0} {t1} {t2} (off d0 d1 d2 f g h) =
+    (f ∙ sync-off t0 k0 t2 k2 t1 d0, g ∙ sync-off t1 k1 t0 k0 t2 d1, h ∙ sync-off t2 k2 t1 k1 t0 d2)
+
 -- the chip: the bus, the cycle, each voice's turn, and synchronisation
 pub round
     : (ways : Ways) (cycle : ℕ) (v0 v1 v2 : Voice) {b b1 : InternalDataBus} {x y next : ℕ} {k0 k1 k2 : Control} {t0 t1 t2 u0 u1 u2 s : Tone}
@@ -113,16 +142,19 @@ pub round
     → pack k1 t1 g1 l1 e1 ≡ voicedBy ways (clockedVoiceBy ways v1 next) (t0 .accumulator) next
     → pack k2 t2 g2 l2 e2 ≡ voicedBy ways (clockedVoiceBy ways v2 next) (t1 .accumulator) next
     → s ≡ clockedTone (v2 .oscillator .tone) (v2 .oscillator .control)
-    → u0 ≡ cond (syncs (t2 .«msb_rising») (k0 .«sync_enabled») (k2 .«sync_enabled») (t1 .«msb_rising»)) (resetPhase t0) t0
-    → u1 ≡ cond (syncs (t0 .«msb_rising») (k1 .«sync_enabled») (k0 .«sync_enabled») (t2 .«msb_rising»)) (resetPhase t1) t1
-    → u2 ≡ cond (syncs (t1 .«msb_rising») (k2 .«sync_enabled») (k1 .«sync_enabled») (t0 .«msb_rising»)) (resetPhase t2) t2
+    → Sync k0 k1 k2 t0 t1 t2 u0 u1 u2
     → whole b1 x y next (pack k0 u0 g0 l0 e0) (pack k1 u1 g1 l1 e1) (pack k2 u2 g2 l2 e2) ≡ tickedBy ways (whole b x y cycle v0 v1 v2)
 unfolding clockedVoiceBy Oscillator·clockedBy
-round ways cycle v0 v1 v2 {b} {b1} {x} {y} {next} {k0} {k1} {k2} {t0} {t1} {t2} {u0} {u1} {u2} {s} {g0} {g1} {g2} {l0} {l1} {l2} {e0} {e1} {e2} o n p q r m f g h =
+round ways cycle v0 v1 v2 {b} {b1} {x} {y} {next} {k0} {k1} {k2} {t0} {t1} {t2} {u0} {u1} {u2} {s} {g0} {g1} {g2} {l0} {l1} {l2} {e0} {e1} {e2} o n p q r m f =
+    let j = judgement f in
     chip-parts ways (whole b x y cycle v0 v1 v2) b1 next (pack k0 t0 g0 l0 e0) (pack k1 t1 g1 l1 e1) (pack k2 t2 g2 l2 e2)
     (faded o) n (p ∙ ap (λ (z : Tone). voicedBy ways (clockedVoiceBy ways v0 next) (z .accumulator) next) m) q r _ _ _
-    (sync-parts k0 t0 g0 l0 e0 _ u0 f) (sync-parts k1 t1 g1 l1 e1 _ u1 g) (sync-parts k2 t2 g2 l2 e2 _ u2 h)
+    (sync-parts k0 t0 g0 l0 e0 _ u0 (j .0)) (sync-parts k1 t1 g1 l1 e1 _ u1 (j .1)) (sync-parts k2 t2 g2 l2 e2 _ u2 (j .2))
 
--- the loop's end
+-- a turn of the loop, and its end
+pub turned : (ways : Ways) (c : Mos6581) (i : ℕ) {a b : Mos6581} → a ≡ tickedBy ways b → b ≡ ticksBy ways i c → a ≡ ticksBy ways (i + 1) c
+unfolding times
+turned ways c i p q = rw add-one (p ∙ ap (tickedBy ways) q)
+
 pub ran : (ways : Ways) (c : Mos6581) {a : Mos6581} {i n : ℕ} → i ≤ n → n ≤ i → a ≡ ticksBy ways i c → a ≡ ticksBy ways n c
 ran ways c {a} {i} {n} h k p = ended (λ j. ticksBy ways j c) a i n h k p

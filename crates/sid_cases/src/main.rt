@@ -1,9 +1,12 @@
-// Replays the oracle's calls on one chip, from standard input: what each answered; ticks answer for every clock by a
-// digest.
+// Replays the oracle's calls on one chip and one pack, from standard input: what each answered; ticks answer for every
+// clock by a digest.
 // The list is made by tools/oracle, which says how it is laid out: cargo run --release -- list sid
 use cases::Tally;
+use refusals::Refused;
 use sid::Answer;
 use sid::Mos6581;
+use tables::Filled;
+use tick::Ticked;
 ghost use Prim.Native.Nat.{_+_, _≤_};
 ghost use lib.ListN.{length};
 
@@ -22,6 +25,10 @@ fn with_byte(digest: u64, byte: u8) -> u64 {
     mixed(digest, byte as u64)
 }
 
+fn with_entry(digest: u64, entry: u16) -> u64 {
+    mixed(digest, entry as u64)
+}
+
 fn codes(a: u16, b: u16, c: u16) -> u64 {
     (a as u64) | ((b as u64) << 12) | ((c as u64) << 24)
 }
@@ -30,37 +37,69 @@ fn levels(a: u8, b: u8, c: u8) -> u64 {
     ((a as u64) << 36) | ((b as u64) << 44) | ((c as u64) << 52)
 }
 
+fn refusal(r: Refused) -> u64 {
+    let why = r.why;
+    ((refusals::number(why) as u64) << 32) | (r.place as u64)
+}
+
+fn outputs(t: Ticked) -> Answered {
+    let chip = t.chip;
+    let code = codes(t.code_0, t.code_1, t.code_2);
+    let level = levels(t.level_0, t.level_1, t.level_2);
+    Answered {
+        chip,
+        answer: code | level,
+    }
+}
+
+// One clock: by the engine over the pack, or by the plain one, whose number is 0.
+fn clocked(engine: u8, chip: Mos6581, pack: &[u16]) -> Answered {
+    if engine == 0 {
+        return outputs(tick::tick(chip));
+    }
+    let r = tick::tick_packed(chip, pack);
+    let after = r.ticked;
+    let gave = outputs(after);
+    let answer = r.answer;
+    match answer {
+        Filled::Done => gave,
+        Filled::Refused(why) => {
+            let chip = gave.chip;
+            Answered {
+                chip,
+                answer: refusal(why),
+            }
+        }
+    }
+}
+
 // The chip is ticked so many times.
-fn ticked(before: Mos6581, clocks: u32) -> Answered {
+fn ticked(engine: u8, before: Mos6581, clocks: u32, pack: &[u16]) -> Answered {
     let mut chip = before;
     let mut answer: u64 = 1;
     let mut left = clocks;
     while 0 < left {
-        let t = tick::tick(chip);
-        let next = t.chip;
+        let gave = clocked(engine, chip, pack);
+        let next = gave.chip;
         chip = next;
-        let code = codes(t.code_0, t.code_1, t.code_2);
-        let level = levels(t.level_0, t.level_1, t.level_2);
-        answer = mixed(answer, code | level);
+        answer = mixed(answer, gave.answer);
         left = left - 1;
     }
     Answered { chip, answer }
 }
 
 // The chip is ticked so many times, and read after each.
-fn watched(before: Mos6581, address: u16, clocks: u32) -> Answered {
+fn watched(engine: u8, before: Mos6581, address: u16, clocks: u32, pack: &[u16]) -> Answered {
     let mut chip = before;
     let mut answer: u64 = 1;
     let mut left = clocks;
     while 0 < left {
-        let t = tick::tick(chip);
-        let next = t.chip;
-        let code = codes(t.code_0, t.code_1, t.code_2);
-        let level = levels(t.level_0, t.level_1, t.level_2);
+        let gave = clocked(engine, chip, pack);
+        let next = gave.chip;
         let r = next.read(address);
         let last = r.chip;
         chip = last;
-        answer = with_byte(mixed(answer, code | level), r.byte);
+        answer = with_byte(mixed(answer, gave.answer), r.byte);
         left = left - 1;
     }
     Answered { chip, answer }
@@ -71,16 +110,12 @@ fn told(answer: Answer) -> u64 {
         Answer::Code { code } => code as u64,
         Answer::Level { level } => level as u64,
         Answer::Held { held } => held as u64,
-        Answer::Refused(r) => {
-            let why = r.why;
-            ((refusals::number(why) as u64) << 32) | (r.place as u64)
-        }
+        Answer::Refused(r) => refusal(r),
     }
 }
 
-// The chip is run so many clocks; its codes and levels after them.
-fn run(before: Mos6581, clocks: u32) -> Answered {
-    let chip = run::run(before, clocks as u64);
+// A chip's codes and levels after a run.
+fn shown(chip: Mos6581) -> Answered {
     let code = told(chip.code(0)) | (told(chip.code(1)) << 12) | (told(chip.code(2)) << 24);
     let level = (told(chip.level(0)) << 36)
         | (told(chip.level(1)) << 44)
@@ -89,6 +124,130 @@ fn run(before: Mos6581, clocks: u32) -> Answered {
         chip,
         answer: code | level,
     }
+}
+
+// The chip is run so many clocks.
+fn run(engine: u8, chip: Mos6581, clocks: u32, pack: &[u16]) -> Answered {
+    if engine == 0 {
+        return shown(run::run(chip, clocks as u64));
+    }
+    let r = run::run_packed(chip, clocks as u64, pack);
+    let after = r.chip;
+    let answer = r.answer;
+    match answer {
+        Filled::Done => shown(after),
+        Filled::Refused(why) => Answered {
+            chip: after,
+            answer: refusal(why),
+        },
+    }
+}
+
+fn fill(pack: &mut [u16]) -> u64 {
+    match pack::fill(pack) {
+        Filled::Done => 0,
+        Filled::Refused(r) => refusal(r),
+    }
+}
+
+// One number all over.
+fn lay(pack: &mut [u16], entry: u16) {
+    let mut left = pack.len();
+    while 0 < left {
+        left = left - 1;
+        pack[left] = entry;
+    }
+}
+
+// Numbers of sixteen bits; no two blocks are alike in their low twelve.
+fn scatter(pack: &mut [u16]) {
+    let mut spread: u64 = 1;
+    let mut left = pack.len();
+    while 0 < left {
+        left = left - 1;
+        spread = mixed(spread, left as u64);
+        pack[left] = (spread % 65536) as u16;
+    }
+}
+
+// The last entry comes first.
+fn turn(pack: &mut [u16]) {
+    let mut at: usize = 0;
+    let mut left = pack.len();
+    while at < left {
+        left = left - 1;
+        let entry = pack[at];
+        pack[at] = pack[left];
+        pack[left] = entry;
+        at = at + 1;
+    }
+}
+
+// The block of selection 9.
+fn spoil(pack: &mut [u16]) {
+    if pack.len() < 20480 {
+        return;
+    }
+    lay(&mut pack[16384..20480], 23130);
+}
+
+fn digest(pack: &[u16]) -> u64 {
+    let mut answer: u64 = 1;
+    let mut left = pack.len();
+    while 0 < left {
+        left = left - 1;
+        answer = with_entry(answer, pack[left]);
+    }
+    answer
+}
+
+// The pack is filled, or laid or changed by a rule; the digest of what it has then.
+fn packed(rule: u8, pack: &mut [u16]) -> u64 {
+    match rule {
+        0 => {
+            fill(pack);
+        }
+        1 => lay(pack, 65535),
+        2 => scatter(pack),
+        3 => turn(pack),
+        _ => spoil(pack),
+    }
+    digest(pack)
+}
+
+// Whether a call was refused for the length of its pack, its chip as it was: no clock leaves the cycle alone.
+fn kept(chip: Mos6581, gave: Answered) -> bool {
+    let after = gave.chip;
+    if after.cycle != chip.cycle {
+        return false;
+    }
+    gave.answer == 15 << 32
+}
+
+// Whether a part is refused by each call that takes a pack.
+fn refused(chip: Mos6581, part: &mut [u16]) -> bool {
+    if !kept(chip, clocked(1, chip, part)) {
+        return false;
+    }
+    if !kept(chip, run(1, chip, 1, part)) {
+        return false;
+    }
+    fill(part) == 15 << 32
+}
+
+// Parts of each length from the longest down to none: how many are not refused, the first of them, and a digest of the
+// entries after all calls.
+fn lengths(chip: Mos6581, longest: u16) -> u64 {
+    let mut entries = [0u16; 65536];
+    scatter(&mut entries);
+    let mut tally = Tally::new();
+    let mut left = (longest as usize) + 1;
+    while 0 < left {
+        left = left - 1;
+        tally = tally.count(refused(chip, &mut entries[..left]));
+    }
+    let found = ((tally.differ as u64) << 32) | (tally.first as u64);
+    mixed(found, digest(&entries))
 }
 
 fn silent(chip: Mos6581) -> Answered {
@@ -104,7 +263,14 @@ fn read(before: Mos6581, address: u16) -> Answered {
     }
 }
 
-fn made(call: u8, value: u8, address: u16, clocks: u32, chip: Mos6581) -> Answered {
+fn made(
+    call: u8,
+    value: u8,
+    address: u16,
+    clocks: u32,
+    chip: Mos6581,
+    pack: &mut [u16],
+) -> Answered {
     match call {
         0 => silent(Mos6581::new()),
         1 => silent(chip.reset()),
@@ -112,9 +278,9 @@ fn made(call: u8, value: u8, address: u16, clocks: u32, chip: Mos6581) -> Answer
         3 => read(chip, address),
         4 => silent(chip.set_pot_x(value)),
         5 => silent(chip.set_pot_y(value)),
-        6 => ticked(chip, clocks),
-        7 => watched(chip, address, clocks),
-        8 => run(chip, clocks),
+        6 => ticked(value, chip, clocks, pack),
+        7 => watched(value, chip, address, clocks, pack),
+        8 => run(value, chip, clocks, pack),
         9 => Answered {
             chip,
             answer: told(chip.code(value)),
@@ -123,15 +289,23 @@ fn made(call: u8, value: u8, address: u16, clocks: u32, chip: Mos6581) -> Answer
             chip,
             answer: told(chip.level(value)),
         },
-        _ => Answered {
+        11 => Answered {
             chip,
             answer: told(chip.held(value)),
+        },
+        12 => Answered {
+            chip,
+            answer: packed(value, pack),
+        },
+        _ => Answered {
+            chip,
+            answer: lengths(chip, address),
         },
     }
 }
 
 // The call at a place of the list.
-fn call_at(list: &[u8], at: usize, chip: Mos6581) -> Answered
+fn call_at(list: &[u8], at: usize, chip: Mos6581, pack: &mut [u16]) -> Answered
     requires { ⌜ at + 16 ≤ length (now list) ⌝ }
 {
     made(
@@ -140,6 +314,7 @@ fn call_at(list: &[u8], at: usize, chip: Mos6581) -> Answered
         words::u16_at(list, at + 2),
         words::u32_at(list, at + 4),
         chip,
+        pack,
     )
 }
 
@@ -148,13 +323,13 @@ struct Replayed {
     tally: Tally,
 }
 
-fn replay(list: &[u8], before: Mos6581, counted: Tally) -> Replayed {
+fn replay(list: &[u8], before: Mos6581, counted: Tally, pack: &mut [u16]) -> Replayed {
     let mut chip = before;
     let mut tally = counted;
     let mut rest = list.len() / 16;
     let mut at: usize = 0;
     while 0 < rest {
-        let gave = call_at(list, at, chip);
+        let gave = call_at(list, at, chip, pack);
         let next = gave.chip;
         chip = next;
         tally = tally.count(gave.answer == words::u64_at(list, at + 8));
@@ -167,6 +342,7 @@ fn replay(list: &[u8], before: Mos6581, counted: Tally) -> Replayed {
 // A part holds whole calls; 2^20 parts are more than any list has.
 fn replay_input() -> Tally {
     let mut list = [0u8; 65536];
+    let mut pack = [0u16; pack::LENGTH];
     let mut chip = Mos6581::new();
     let mut tally = Tally::new();
     let mut parts: u32 = 1048576;
@@ -175,7 +351,7 @@ fn replay_input() -> Tally {
         if n == 0 {
             return tally;
         }
-        let r = replay(&list[..n], chip, tally);
+        let r = replay(&list[..n], chip, tally, &mut pack);
         let next = r.chip;
         let count = r.tally;
         chip = next;

@@ -1,7 +1,13 @@
--- What a tick gives: document 01, 'Added by the port'.
-use Rattle.tick.specs.declared.Ticked.{Ticked}
-use Rattle.sid.specs.Sid.{codeOf, levelOf}
+-- What a tick gives: document 01, 'Added by the port'; over a pack: document 02, request 3.
+use mathlib.Core.Bool.{cond}
+use mathlib.Core.List.{List}
+use Prim.Native.Nat.{ℕ}
+use lib.Dec.{eqb}
+use lib.ListN.{length}
+use Rattle.sid.specs.Sid.{codeOf, levelOf, tickedBy}
 use Rattle.sid.specs.declared.Mos6581.{Mos6581}
+use Rattle.pack.specs.Pack.{packLength, packed}
+use Rattle.tick.specs.declared.Ticked.{Ticked}
 
 -- 'a tick that … gives three 12-bit codes and three levels'
 unfoldable pub outputs : Mos6581 → Ticked
@@ -14,3 +20,7 @@ outputs c = record {
   «level_1» = levelOf (c .«voice_1»);
   «level_2» = levelOf (c .«voice_2»);
 }
+
+-- over a pack; 'state … as before' where it has not 45,056 entries
+unfoldable pub packTicked : List ℕ → Mos6581 → Ticked
+packTicked pack c = outputs (cond (eqb (length pack) packLength) (tickedBy (packed pack) c) c)

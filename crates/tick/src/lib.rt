@@ -3,11 +3,18 @@
 use floating::FloatingBus;
 use noise::NoiseGenerator;
 use oscillator::Oscillator;
+use refusals::Refusal;
+use refusals::Refused;
 use sid::Mos6581;
 use sid::Voice;
+use tables::Filled;
 ghost use mathlib.Core.Path.{_≡_};
-ghost use Rattle.sid.specs.Sid.{ticked};
-ghost use Rattle.tick.specs.Outputs.{outputs};
+ghost use lib.ListN.{length};
+ghost use Rattle.tables.specs.Tables.{told};
+ghost use Rattle.sid.specs.Sid.{ticked, tickedBy};
+ghost use Rattle.pack.specs.Pack.{refusal};
+ghost use Rattle.pack.specs.Loop.{over};
+ghost use Rattle.tick.specs.Outputs.{outputs, packTicked};
 
 // What a tick gives: the chip after it, the codes and the levels of its voices.
 pub struct Ticked {
@@ -20,8 +27,49 @@ pub struct Ticked {
     pub level_2: u8,
 }
 
+// What a tick over a pack gives: where it is refused, the chip as it was.
+pub struct PackTicked {
+    pub ticked: Ticked,
+    pub answer: Filled,
+}
+
 pub fn tick(chip: Mos6581) -> Ticked
     ensures { λ r. ⌜ r ≡ outputs (ticked chip) ⌝ }
+{
+    let none = [0u16; 0];
+    tick_over(chip, &none)
+}
+
+pub fn tick_packed(chip: Mos6581, pack: &[u16]) -> PackTicked
+    ensures { λ r. ⌜ (r .ticked ≡ packTicked (now (pack .entry)) chip) × (told (r .answer) ≡ refusal (length (now (pack .entry)))) ⌝ }
+{
+    if pack.len() != pack::LENGTH {
+        let ticked = Ticked {
+            chip,
+            code_0: chip.voice_0.oscillator.tone.last_sample,
+            code_1: chip.voice_1.oscillator.tone.last_sample,
+            code_2: chip.voice_2.oscillator.tone.last_sample,
+            level_0: chip.voice_0.envelope.volume,
+            level_1: chip.voice_1.envelope.volume,
+            level_2: chip.voice_2.envelope.volume,
+        };
+        return PackTicked {
+            ticked,
+            answer: Filled::Refused(Refused {
+                why: Refusal::PackLength,
+                place: 0,
+            }),
+        };
+    }
+    PackTicked {
+        ticked: tick_over(chip, pack),
+        answer: Filled::Done,
+    }
+}
+
+// Over a pack of any length: where it lacks the entry of a code, the code is settled afresh.
+pub fn tick_over(chip: Mos6581, pack: &[u16]) -> Ticked
+    ensures { λ r. ⌜ r ≡ outputs (tickedBy (over (now (pack .entry))) chip) ⌝ }
 {
     let mut data_bus = chip.data_bus;
     let control_0 = chip.voice_0.oscillator.control;
@@ -118,7 +166,12 @@ pub fn tick(chip: Mos6581) -> Ticked
         tone_2.accumulator,
     );
     if control_0.loads_lines() {
-        code_0 = control_0.loaded_code(code_0);
+        let at_0 = pack::entry(pack::base(control_0), code_0);
+        if at_0 < pack.len() {
+            code_0 = pack[at_0] % 4096;
+        } else {
+            code_0 = control_0.loaded_code(code_0);
+        }
     }
     tone_0 = tone_0.sounded(control_0, code_0);
     if control_0.couples() {
@@ -137,7 +190,12 @@ pub fn tick(chip: Mos6581) -> Ticked
         tone_0.accumulator,
     );
     if control_1.loads_lines() {
-        code_1 = control_1.loaded_code(code_1);
+        let at_1 = pack::entry(pack::base(control_1), code_1);
+        if at_1 < pack.len() {
+            code_1 = pack[at_1] % 4096;
+        } else {
+            code_1 = control_1.loaded_code(code_1);
+        }
     }
     tone_1 = tone_1.sounded(control_1, code_1);
     if control_1.couples() {
@@ -156,7 +214,12 @@ pub fn tick(chip: Mos6581) -> Ticked
         tone_1.accumulator,
     );
     if control_2.loads_lines() {
-        code_2 = control_2.loaded_code(code_2);
+        let at_2 = pack::entry(pack::base(control_2), code_2);
+        if at_2 < pack.len() {
+            code_2 = pack[at_2] % 4096;
+        } else {
+            code_2 = control_2.loaded_code(code_2);
+        }
     }
     tone_2 = tone_2.sounded(control_2, code_2);
     if control_2.couples() {
@@ -171,67 +234,55 @@ pub fn tick(chip: Mos6581) -> Ticked
     tone_0 = sid::synced(tone_0, control_0, tone_2, control_2, tone_1);
     tone_1 = next_1;
     tone_2 = next_2;
-    let noise = NoiseGenerator {
-        numbers: noise_0,
-        captured_charge: captured_0,
-        charge: charge_0,
-    };
-    let floats = FloatingBus {
-        numbers: floating_0,
-        charge: lines_0,
-    };
-    let oscillator = Oscillator {
-        control: control_0,
-        tone: tone_0,
-        noise,
-        bus: floats,
-    };
-    let voice_0 = Voice {
-        oscillator,
-        envelope: envelope_0,
-    };
-    let noise = NoiseGenerator {
-        numbers: noise_1,
-        captured_charge: captured_1,
-        charge: charge_1,
-    };
-    let floats = FloatingBus {
-        numbers: floating_1,
-        charge: lines_1,
-    };
-    let oscillator = Oscillator {
-        control: control_1,
-        tone: tone_1,
-        noise,
-        bus: floats,
-    };
-    let voice_1 = Voice {
-        oscillator,
-        envelope: envelope_1,
-    };
-    let noise = NoiseGenerator {
-        numbers: noise_2,
-        captured_charge: captured_2,
-        charge: charge_2,
-    };
-    let floats = FloatingBus {
-        numbers: floating_2,
-        charge: lines_2,
-    };
-    let oscillator = Oscillator {
-        control: control_2,
-        tone: tone_2,
-        noise,
-        bus: floats,
-    };
-    let voice_2 = Voice {
-        oscillator,
-        envelope: envelope_2,
-    };
     let after = Mos6581 {
-        voice_0,
-        voice_1,
-        voice_2,
+        voice_0: Voice {
+            oscillator: Oscillator {
+                control: control_0,
+                noise: NoiseGenerator {
+                    numbers: noise_0,
+                    captured_charge: captured_0,
+                    charge: charge_0,
+                },
+                bus: FloatingBus {
+                    numbers: floating_0,
+                    charge: lines_0,
+                },
+                tone: tone_0,
+            },
+            envelope: envelope_0,
+        },
+        voice_1: Voice {
+            oscillator: Oscillator {
+                control: control_1,
+                noise: NoiseGenerator {
+                    numbers: noise_1,
+                    captured_charge: captured_1,
+                    charge: charge_1,
+                },
+                bus: FloatingBus {
+                    numbers: floating_1,
+                    charge: lines_1,
+                },
+                tone: tone_1,
+            },
+            envelope: envelope_1,
+        },
+        voice_2: Voice {
+            oscillator: Oscillator {
+                control: control_2,
+                noise: NoiseGenerator {
+                    numbers: noise_2,
+                    captured_charge: captured_2,
+                    charge: charge_2,
+                },
+                bus: FloatingBus {
+                    numbers: floating_2,
+                    charge: lines_2,
+                },
+                tone: tone_2,
+            },
+            envelope: envelope_2,
+        },
         data_bus,
         pot_x: chip.pot_x,
         pot_y: chip.pot_y,

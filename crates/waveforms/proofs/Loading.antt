@@ -1,5 +1,5 @@
--- Document 01, 'Line loading': the result has no line that its input lacks. It is a code of twelve bits, and settled
--- 0 is 0. For every selection and every value. Assumes nothing.
+-- Document 01, 'Line loading': the result has no line that its input lacks. It is a code of twelve bits, turns on those
+-- of its input alone, and settled 0 is 0. For every selection and every value. Assumes nothing.
 use mathlib.Core.Path.{_≡_, refl, ap, sym, subst⁻¹, _∙_}
 use mathlib.Core.Bool.{Bool, true, false, cond, not}
 use mathlib.Core.List.{List}
@@ -15,7 +15,7 @@ use lib.Ieee.{Float, nan, binary32, le, ofInt}
 use borrow.Author.Tests.{ltb-true, ltb-false}
 use Rattle.laws.specs.Build.{build}
 use Rattle.laws.specs.Times.{times}
-use Rattle.laws.proofs.Build.{build-at}
+use Rattle.laws.proofs.Build.{build-at, build-same}
 use Rattle.laws.proofs.Cond.{either}
 use Rattle.laws.proofs.Table.{at-or}
 use Rattle.waveforms.specs.Constants.{0·0, retentionThresholds, loadingScales, bySelection}
@@ -108,9 +108,12 @@ module _ (t : Float) (cs : List Float) where
 
 -- ---- the settled code
 
--- the charges after three passes
+-- the charges after three passes, from any and from a value's
+abbrev passed : ℕ → List Float → List Float
+passed s = times 3 (pass (arrayOf s .coupling) (arrayOf s .«static_load») (interactionScale s) (bySelection loadingScales s))
+
 abbrev charges : ℕ → ℕ → List Float
-charges s v = times 3 (pass (arrayOf s .coupling) (arrayOf s .«static_load») (interactionScale s) (bySelection loadingScales s)) (build (chargeAt v) 12)
+charges s v = passed s (build (chargeAt v) 12)
 
 module _ (s v : ℕ) where
   line-below : (b : ℕ) → b < 12 → v / 2 ^ b % 2 ≡ 0 → le (bySelection retentionThresholds s) (getD (charges s v) b nan) ≡ false
@@ -133,6 +136,19 @@ pub settled-zero : (s : ℕ) → settled s 0 ≡ 0
 unfolding settled settledBy arrayOf
 settled-zero s = code-empty (bySelection retentionThresholds s) (charges s 0) 12 (λ b h. line-below s 0 b h (ap (λ (x : ℕ). x % 2) (zero-div (2 ^ b))))
 
+-- a value's low twelve bits alone count
+cut-line : (v b : ℕ) → b < 12 → v % 4096 / 2 ^ b % 2 ≡ v / 2 ^ b % 2
+cut-line v b l =
+    let p : 12 ≡ 12 - b + b = omega arith in
+    let q : 12 - b ≡ 11 - b + 1 = omega arith in
+    ap (λ (m : ℕ). v % 2 ^ m / 2 ^ b % 2) p ∙ ap (λ (x : ℕ). x % 2) (field v (12 - b) b ∙ ap (λ (m : ℕ). v / 2 ^ b % 2 ^ m) q) ∙ mod-mod-pow (v / 2 ^ b) (11 - b) 1
+
+pub settled-cut : (s v : ℕ) → settled s (v % 4096) ≡ settled s v
+unfolding settled settledBy arrayOf chargeAt
+settled-cut s v =
+    ap (λ (before : List Float). code (bySelection retentionThresholds s) (passed s before) 12)
+    (build-same (chargeAt (v % 4096)) (chargeAt v) 12 (λ b h. ap (λ (x : ℕ). ofInt binary32 (pos x)) (cut-line v b h)))
+
 -- ---- the code for the tick: a single waveform's value is cut to twelve bits
 
 loaded-either : (P : ℕ → Type 0) (s v : ℕ) → P (settled s v) → P (v % 4096) → P (loaded s v)
@@ -146,11 +162,7 @@ cut-lacks : (v b : ℕ) → v / 2 ^ b % 2 ≡ 0 → v % 4096 / 2 ^ b % 2 ≡ 0
 cut-lacks v b e = go (ltb b 12) refl
   where
     go : (x : Bool) → ltb b 12 ≡ x → v % 4096 / 2 ^ b % 2 ≡ 0
-    go true f =
-        let l : b < 12 = ltb-true b 12 f in
-        let p : 12 ≡ 12 - b + b = omega arith in
-        let q : 12 - b ≡ 11 - b + 1 = omega arith in
-        ap (λ (m : ℕ). v % 2 ^ m / 2 ^ b % 2) p ∙ ap (λ (x : ℕ). x % 2) (field v (12 - b) b ∙ ap (λ (m : ℕ). v / 2 ^ b % 2 ^ m) q) ∙ mod-mod-pow (v / 2 ^ b) (11 - b) 1 ∙ e
+    go true f = cut-line v b (ltb-true b 12 f) ∙ e
     go false f = let h : v % 4096 < 2 ^ 12 = omega arith in ap (λ (x : ℕ). x % 2) (div-eq-of-lt (lt-of-lt-of-le h (pow-mono (ltb-false b 12 f))))
 
 pub loaded-lacks : (s v b : ℕ) → v / 2 ^ b % 2 ≡ 0 → loaded s v / 2 ^ b % 2 ≡ 0

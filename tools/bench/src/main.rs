@@ -4,17 +4,22 @@
 
 mod original;
 
-use original::Voices;
+use original::{GeneratedWaveShapes, Voices};
 use std::hint::black_box;
 use std::process::ExitCode;
 
-// Crate `bench`; and of C, the processor time of this process in microseconds.
+// Crates `bench` and `bench_pack`; and of C, the processor time of this process in microseconds.
 extern "C" {
     fn bench_idle(clocks: u64) -> u64;
     fn bench_run(control: u8, clocks: u64) -> u64;
     fn bench_floats(control: u8, clocks: u64) -> u64;
     fn bench_ticks(control: u8, clocks: u64) -> u64;
     fn bench_writes(seed: u16, writes: u64, apart: u64) -> u64;
+    fn bench_pack_fill(pack: *mut u16, length: usize);
+    fn bench_pack_run(control: u8, clocks: u64, pack: *const u16, length: usize) -> u64;
+    fn bench_pack_ticks(control: u8, clocks: u64, pack: *const u16, length: usize) -> u64;
+    fn bench_both_ticks(control: u8, clocks: u64) -> u64;
+    fn bench_pack_writes(seed: u16, writes: u64, apart: u64, pack: *const u16, length: usize) -> u64;
     fn clock() -> i64;
 }
 
@@ -25,11 +30,17 @@ enum Scene {
     Floats(u8),
     Ticks(u8),
     Writes(u64),
+    // over a filled pack; the last with any byte to any register of a voice
+    PackRun(u8),
+    PackTicks(u8),
+    PackWrites(u64),
+    // the plain tick, where both engines are called
+    BothTicks(u8),
 }
 use Scene::*;
 
 /// Name, scene and the ratio that is aimed at, if any.
-const SCENES: [(&str, Scene, Option<f64>); 20] = [
+const SCENES: [(&str, Scene, Option<f64>); 36] = [
     ("run, fresh chip", Idle, Some(0.85)),
     ("run, three pulses", Run(0x41), Some(1.0)),
     ("run, three noises", Run(0x81), Some(1.0)),
@@ -50,7 +61,26 @@ const SCENES: [(&str, Scene, Option<f64>); 20] = [
     ("tick, three noises", Ticks(0x81), Some(1.8)),
     ("tick, triangles", Ticks(0x11), Some(1.8)),
     ("tick, triangle with noise", Ticks(0x91), Some(1.8)),
+    ("pack run, three pulses", PackRun(0x41), None),
+    ("pack run, selection 3", PackRun(0x31), Some(0.8)),
+    ("pack run, selection 5", PackRun(0x51), Some(0.8)),
+    ("pack run, selection 6", PackRun(0x61), Some(0.8)),
+    ("pack run, selection 7", PackRun(0x71), Some(0.8)),
+    ("pack run, selection 10", PackRun(0xa1), Some(0.8)),
+    ("pack run, selection 11", PackRun(0xb1), Some(0.8)),
+    ("pack run, selection 12", PackRun(0xc1), Some(0.8)),
+    ("pack run, selection 13", PackRun(0xd1), Some(0.8)),
+    ("pack run, selection 14", PackRun(0xe1), Some(0.8)),
+    ("pack run, selection 15", PackRun(0xf1), Some(0.8)),
+    ("pack run, any write every 100", PackWrites(100), None),
+    ("pack run, any write every 1000", PackWrites(1000), None),
+    ("tick beside it, three pulses", BothTicks(0x41), None),
+    ("pack tick, three pulses", PackTicks(0x41), None),
+    ("pack tick, selection 3", PackTicks(0x31), None),
 ];
+
+/// Entries of a pack.
+const PACK: usize = 45_056;
 
 const SEED: u16 = 5;
 
@@ -102,13 +132,13 @@ fn ticks(voices: &mut Voices, clocks: u64) -> u64 {
 }
 
 #[inline(never)]
-fn stir(voices: &mut Voices, writes: u64, apart: u64) -> u64 {
+fn stir(voices: &mut Voices, writes: u64, apart: u64, any: bool) -> u64 {
     let mut seed = SEED;
     for _ in 0..writes {
         seed = seed.wrapping_mul(25173).wrapping_add(13849);
         let register = seed % 21;
         let byte = (seed / 256) as u8;
-        let value = if register % 7 == 4 {
+        let value = if register % 7 == 4 && !any {
             byte % 16 + (seed % 3 * 32) as u8
         } else {
             byte
@@ -131,7 +161,7 @@ fn original(scene_of: Scene, clocks: u64) -> (u64, i64) {
             let mut voices = Voices::new();
             timed(|| run(&mut voices, clocks))
         }
-        Run(control) => {
+        Run(control) | PackRun(control) => {
             let mut voices = scene(control);
             timed(|| run(&mut voices, clocks))
         }
@@ -139,18 +169,23 @@ fn original(scene_of: Scene, clocks: u64) -> (u64, i64) {
             let mut voices = afloat(control);
             timed(|| run(&mut voices, clocks))
         }
-        Ticks(control) => {
+        Ticks(control) | PackTicks(control) | BothTicks(control) => {
             let mut voices = scene(control);
             timed(|| ticks(&mut voices, clocks))
         }
         Writes(apart) => {
             let mut voices = Voices::new();
-            timed(|| stir(&mut voices, clocks / apart, apart))
+            timed(|| stir(&mut voices, clocks / apart, apart, false))
+        }
+        PackWrites(apart) => {
+            let mut voices = Voices::new();
+            timed(|| stir(&mut voices, clocks / apart, apart, true))
         }
     }
 }
 
-fn ours(scene_of: Scene, clocks: u64) -> (u64, i64) {
+fn ours(scene_of: Scene, clocks: u64, pack: &[u16]) -> (u64, i64) {
+    let (start, length) = (pack.as_ptr(), pack.len());
     timed(|| unsafe {
         match scene_of {
             Idle => bench_idle(clocks),
@@ -158,8 +193,30 @@ fn ours(scene_of: Scene, clocks: u64) -> (u64, i64) {
             Floats(control) => bench_floats(control, clocks),
             Ticks(control) => bench_ticks(control, clocks),
             Writes(apart) => bench_writes(SEED, clocks / apart, apart),
+            PackRun(control) => bench_pack_run(control, clocks, start, length),
+            PackTicks(control) => bench_pack_ticks(control, clocks, start, length),
+            BothTicks(control) => bench_both_ticks(control, clocks),
+            PackWrites(apart) => bench_pack_writes(SEED, clocks / apart, apart, start, length),
         }
     })
+}
+
+/// The pack filled, beside the original's tables made: the least milliseconds of each.
+fn filling(rounds: u64, pack: &mut [u16]) -> [f64; 2] {
+    let mut least = [i64::MAX; 2];
+    for _ in 0..rounds {
+        let (_, time) = timed(|| {
+            black_box(GeneratedWaveShapes::new());
+            0
+        });
+        least[0] = least[0].min(time);
+        let (_, time) = timed(|| {
+            unsafe { bench_pack_fill(pack.as_mut_ptr(), pack.len()) };
+            0
+        });
+        least[1] = least[1].min(time);
+    }
+    least.map(|time| time as f64 / 1000.0)
 }
 
 fn main() -> ExitCode {
@@ -168,13 +225,15 @@ fn main() -> ExitCode {
     let clocks = words.next().map_or(2_000_000, |word| word.expect("clocks: a number"));
     println!("{rounds} rounds of {clocks} clocks; ns a clock");
     println!("{:<32}{:>10}{:>8}{:>8}{:>8}", "", "original", "here", "ratio", "aim");
+    let mut pack = vec![0; PACK];
+    let [theirs, here] = filling(rounds, &mut pack);
     let mut differ = false;
     for (name, scene_of, aim) in SCENES {
         let mut least = [i64::MAX; 2];
         for _ in 0..rounds {
             let (theirs, time) = original(scene_of, clocks);
             least[0] = least[0].min(time);
-            let (here, time) = ours(scene_of, clocks);
+            let (here, time) = ours(scene_of, clocks, &pack);
             least[1] = least[1].min(time);
             differ |= theirs != here;
         }
@@ -182,6 +241,7 @@ fn main() -> ExitCode {
         let aim = aim.map_or(String::new(), |aim| format!("{aim:.2}"));
         println!("{name:<32}{theirs:>10.1}{here:>8.1}{:>8.2}{aim:>8}", here / theirs);
     }
+    println!("{:<32}{theirs:>10.1}{here:>8.1}{:>8.2}{:>8.2}", "pack filled, ms", here / theirs, 1.0);
     if differ {
         println!("what is heard DIFFERS");
         return ExitCode::FAILURE;

@@ -24,7 +24,7 @@ mod waveforms {
 use bus::InternalDataBus;
 use envelope::Envelope;
 use oscillator::Oscillator;
-use waveforms::GeneratedWaveShapes;
+pub use waveforms::GeneratedWaveShapes;
 
 /// What `Mos6581` of the original is without converter and filter.
 pub struct Voices {

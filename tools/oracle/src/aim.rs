@@ -1,7 +1,7 @@
 //! Calls that fall where something inside the chip is under way: what to wait for, and what to
 //! write then, both chosen by looking at the original's own state.
 
-use crate::calls::{Call, Pace, Recorder};
+use crate::calls::{Call, Pace, Recorder, Rule};
 use crate::random::Random;
 use crate::sid::constants::{
     NEVER, NOISE_TEST_LEAK_INTERVAL_CYCLES, NOISE_TEST_LOGIC_THRESHOLD, WAVEFORM_FLOAT_HOLD_CYCLES,
@@ -34,8 +34,21 @@ const LEVELS: [u8; 14] = [
 
 pub type Wanted = Box<dyn Fn(&Mos6581) -> bool>;
 
+/// The pack that a seed's calls are played over; without one, the engine is the plain one.
+pub fn pack(seed: u64) -> Option<Rule> {
+    match seed % 4 {
+        0 => Some(Rule::Scatter),
+        2 => Some(Rule::Fill),
+        _ => None,
+    }
+}
+
 /// The calls of a seed, some of which wait long, or come where leaks fall due.
 pub fn seeded_calls(recorder: &mut Recorder, seed: u64, ticks: u64) {
+    match pack(seed) {
+        Some(rule) => recorder.play_over(rule),
+        None => recorder.play_over_pack(false),
+    }
     let mut random = Random::seeded(seed);
     let patience = match random.below(32) {
         0 => FLOAT_TO_THE_END,

@@ -1,4 +1,4 @@
-//! Calls on the whole chip, and records of what they answer.
+//! Calls on the whole chip and on a pack, and records of what they answer.
 //!
 //! A record has 16 bytes, little endian: the call's number (its place in `Call`, from 0), a value
 //! (u8), an address (u16), a number of clocks (u32) and the answer (u64). What a call does not
@@ -9,6 +9,16 @@
 //! and its digest has that byte, too; `Run` answers with the outputs after its last clock. `Code`,
 //! `Level` and `Held` answer for a voice, or give the refusal's number from bit 32 on and its place.
 //!
+//! `Tick`, `Watch` and `Run` have a value: 0 for the plain engine, 1 for the engine over the pack. In
+//! the original the pack's entries take the place of the settled codes then. `Pack` makes the pack or
+//! changes it, by the rule whose number is the value (its place in `Rule`, from 0), and answers with
+//! a digest of its entries, the last one first. The pack has 45,056 of them, all 0 at first.
+//!
+//! `Lengths` has the greatest length as its address. Of 65,536 entries, laid as by `Rule::Scatter`,
+//! it lends as many to `tick_packed`, `run_packed` and `fill`, and then one fewer until there is
+//! none. It answers with a digest of two fields: how many lengths not all three refused, from bit 32
+//! on, and the first such one's number among the lengths lent, from 1; then a digest of the entries.
+//!
 //! The port has one cycle for the three voices. The original has three, and each record is made only
 //! where they agree and count the clocks since the chip was made or last reset.
 //!
@@ -16,12 +26,20 @@
 //! clock is made only where at most one is, in each voice and of each kind (document 02, request 12).
 
 use crate::sid::sid::Mos6581;
+use crate::sid::waveforms::GeneratedWaveShapes;
 
 use Call::{
-    Code, Held, Level, New, Read, Reset, Run, SetPotX, SetPotY, Tick, Watch, Write as WriteCall,
+    Code, Held, Lengths, Level, New, Pack, Read, Reset, Run, SetPotX, SetPotY, Tick, Watch,
+    Write as WriteCall,
 };
 
 pub const RECORD_BYTES: usize = 16;
+
+const PACK_LENGTH: usize = 45_056;
+/// Entries of the pack that are the block of selection 9.
+const BLOCK_OF_9: std::ops::Range<usize> = 16_384..20_480;
+/// Entries of which parts of every length are lent.
+const LENT: usize = 65_536;
 
 /// The number of a voice above 2 is refused (document 01, number 3 at place 0).
 const NO_SUCH_VOICE: u64 = 3 << 32;
@@ -43,6 +61,25 @@ pub enum Call {
     Code(u8),
     Level(u8),
     Held(u8),
+    /// The pack made or changed, and played over from now on.
+    Pack(Rule),
+    /// Parts of each length up to this one.
+    Lengths(u16),
+}
+
+/// How the pack is made, or changed from what it has.
+#[derive(Clone, Copy, PartialEq)]
+pub enum Rule {
+    /// The settled codes.
+    Fill,
+    /// Ones all over.
+    Ones,
+    /// Numbers of sixteen bits; no two blocks are alike in their low twelve.
+    Scatter,
+    /// The last entry comes first.
+    Turn,
+    /// One number all over in the block of selection 9, which no voice reads.
+    Spoil,
 }
 
 /// How clocks are made until something comes up.
@@ -63,12 +100,23 @@ pub struct Recorder {
     /// Clocks since the chip was made or last reset.
     since: u64,
     clock_by_clock: bool,
+    settled: Vec<u16>,
+    pack: Vec<u16>,
+    /// The rule of the last `Pack`.
+    rule: Option<Rule>,
+    packed: bool,
 }
 
 impl Recorder {
     pub fn new() -> Self {
+        let mut chip = Mos6581::new();
+        let settled = chip.tables().pack();
         Self {
-            chip: Mos6581::new(),
+            chip,
+            settled,
+            pack: vec![0; PACK_LENGTH],
+            rule: None,
+            packed: false,
             records: Vec::new(),
             ticked: 0,
             run: 0,
@@ -85,6 +133,24 @@ impl Recorder {
         self.run = 0;
         self.since = 0;
         self.clock_by_clock = clock_by_clock;
+        self.pack.fill(0);
+        self.rule = None;
+        self.play_over_pack(false);
+    }
+
+    /// The engine of the clocks from now on: over the pack, or plain.
+    pub fn play_over_pack(&mut self, packed: bool) {
+        let pack = if packed { &self.pack } else { &self.settled };
+        *self.chip.tables() = GeneratedWaveShapes::from_pack(pack);
+        self.packed = packed;
+    }
+
+    /// Over a pack made by this rule, which is made if it is not there already.
+    pub fn play_over(&mut self, rule: Rule) {
+        if self.rule != Some(rule) {
+            self.make(&[Pack(rule)]);
+        }
+        self.play_over_pack(true);
     }
 
     pub fn make(&mut self, calls: &[Call]) {
@@ -139,8 +205,26 @@ impl Recorder {
                 0,
                 of_voice(voice, |v| chip.envelopes[v].state().floor_hold.into()),
             ),
+            Pack(rule) => {
+                self.change_pack(rule);
+                (rule as u8, 0, digest(&self.pack))
+            }
+            Lengths(longest) => (0, longest, refusals_up_to(longest)),
         };
         self.record(call, value, address, 0, answer);
+    }
+
+    fn change_pack(&mut self, rule: Rule) {
+        let pack = &mut self.pack;
+        match rule {
+            Rule::Fill => pack.copy_from_slice(&self.settled),
+            Rule::Ones => pack.fill(0xffff),
+            Rule::Scatter => scatter(pack),
+            Rule::Turn => pack.reverse(),
+            Rule::Spoil => pack[BLOCK_OF_9].fill(0x5a5a),
+        }
+        self.rule = Some(rule);
+        self.play_over_pack(true);
     }
 
     pub fn clocks(&self) -> u64 {
@@ -178,10 +262,11 @@ impl Recorder {
             Pace::Run => self.run += u64::from(clocks),
             Pace::Tick | Pace::Watch(_) => self.ticked += u64::from(clocks),
         }
+        let engine = self.packed.into();
         match pace {
-            Pace::Tick => self.record(Tick(0), 0, 0, clocks, digest),
-            Pace::Watch(address) => self.record(Watch(0, 0), 0, address, clocks, digest),
-            Pace::Run => self.record(Run(0), 0, 0, clocks, outputs(&self.chip)),
+            Pace::Tick => self.record(Tick(0), engine, 0, clocks, digest),
+            Pace::Watch(address) => self.record(Watch(0, 0), engine, address, clocks, digest),
+            Pace::Run => self.record(Run(0), engine, 0, clocks, outputs(&self.chip)),
         }
         clocks
     }
@@ -209,6 +294,8 @@ fn number(call: Call) -> u8 {
         Code(..) => 9,
         Level(..) => 10,
         Held(..) => 11,
+        Pack(..) => 12,
+        Lengths(..) => 13,
     }
 }
 
@@ -217,6 +304,31 @@ fn of_voice(voice: u8, answer: impl Fn(usize) -> u64) -> u64 {
         return NO_SUCH_VOICE;
     }
     answer(voice.into())
+}
+
+/// The answer of `Lengths`: all lengths but the pack's own are refused, and no entry changes.
+fn refusals_up_to(longest: u16) -> u64 {
+    let mut entries = vec![0; LENT];
+    scatter(&mut entries);
+    let longest = usize::from(longest);
+    let found = match longest.checked_sub(PACK_LENGTH) {
+        Some(longer) => 1 << 32 | (longer as u64 + 1),
+        None => 0,
+    };
+    mixed(found, digest(&entries))
+}
+
+fn scatter(entries: &mut [u16]) {
+    let mut spread = 1;
+    for (place, entry) in entries.iter_mut().enumerate().rev() {
+        spread = mixed(spread, place as u64);
+        *entry = spread as u16;
+    }
+}
+
+fn digest(entries: &[u16]) -> u64 {
+    let last_first = entries.iter().rev();
+    last_first.fold(1, |digest, &entry| mixed(digest, entry.into()))
 }
 
 fn outputs(chip: &Mos6581) -> u64 {

@@ -3,12 +3,15 @@
 mod bus;
 mod envelope;
 mod oscillator;
+mod packs;
 mod replay;
 mod settling;
 mod sid;
 mod waveforms;
 
 use std::ffi::OsStr;
+
+pub use replay::{listing_in_one, scores_in_one};
 
 type List = fn() -> Vec<u8>;
 

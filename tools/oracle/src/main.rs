@@ -26,7 +26,8 @@ fn main() -> ExitCode {
     let Some(done) = obey(&arguments) else {
         eprintln!("usage: oracle list NAME, where NAME is {}", lists::names());
         eprintln!("       oracle compare-calls SEEDS TICKS FIRST_SEED SID_CASES...");
-        eprintln!("       oracle compare-scores SCORES FIRST_SEED REPLAY...");
+        eprintln!("       oracle compare-scores SCORES FIRST_SEED REPLAY_CASES...");
+        eprintln!("       oracle compare-replay SCORES FIRST_SEED REPLAY...");
         eprintln!("       oracle calls SEED TICKS");
         eprintln!("       oracle score SEED");
         eprintln!("       oracle listing < SCORE");
@@ -52,6 +53,9 @@ fn obey(arguments: &[&OsStr]) -> Option<io::Result<bool>> {
         }
         ("compare-scores", [count, first, program @ ..]) if !program.is_empty() => {
             compare::scores(program, number(count)?, number(first)?)
+        }
+        ("compare-replay", [count, first, program @ ..]) if !program.is_empty() => {
+            compare::replay(program, number(count)?, number(first)?)
         }
         ("calls", &[seed, ticks]) => {
             let mut recorder = Recorder::new();

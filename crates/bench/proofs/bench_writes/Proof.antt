@@ -5,13 +5,15 @@ use Prim.Native.Nat.{_-_, _≤_}
 use mathlib.Core.Path.{_≡_, _∙_, ap, refl}
 use Rattle.laws.specs.Times.{times}
 use Rattle.laws.proofs.Loops.{ended}
-use Rattle.bench.specs.Bench.{heard, next, stirred}
+use Rattle.sid.specs.Sid.{ticks}
+use Rattle.scenes.specs.Scenes.{heard, next, stirred}
+use Rattle.bench.specs.Bench.{valueFor}
 use borrow.Author.Needs.{needs}
 use Rattle.bench.proofs.bench_writes.Statement.{statement}
 use Rattle.bench.proofs.bench_writes.Tie as tie
 
 abbrev Inv-loop : tie.InvT-loop
-Inv-loop seed writes apart chip₀ x₀ i₀ chip x i = (i ≤ writes) × (x ≡ times i next seed) × (chip ≡ stirred i seed apart)
+Inv-loop seed writes apart chip₀ x₀ i₀ chip x i = (i ≤ writes) × (x ≡ times i next seed) × (chip ≡ stirred ticks valueFor i seed apart)
 
 abbrev μ-loop : tie.MeasureT-loop
 μ-loop seed writes apart chip₀ x₀ i₀ chip x i = writes - i
@@ -38,7 +40,7 @@ returns c =
     let l = c .before .before .loop in
     let a = c .before .before .before .before .args in
     c .heard .ensures
-    ∙ ap heard (ended (λ n. stirred n (a .seed) (a .apart)) _ _ _ (l .inv .0) (c .before .loop-test .left) (l .inv .2))
+    ∙ ap heard (ended (λ n. stirred ticks valueFor n (a .seed) (a .apart)) _ _ _ (l .inv .0) (c .before .loop-test .left) (l .inv .2))
 
 pub bench-writes-spec : {M : Type 1} → statement M
 bench-writes-spec =

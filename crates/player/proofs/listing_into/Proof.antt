@@ -10,8 +10,8 @@ listing-len-requires c κs = search needs
 
 returns : tie.Need-returns
 returns c =
-    let a = c .before .before .before .before .args in
-    no-room (a .s .now) (a .out .now) (omega arith)
+    let a = c .before .before .before .before .before .args in
+    no-room _ (a .s .now) (a .out .now) (omega arith)
 
 write-listing-requires : tie.Need-write-listing-requires
 write-listing-requires c κs = search needs
@@ -21,8 +21,8 @@ same-length c = search needs
 
 returns-2 : tie.Need-returns-2
 returns-2 c =
-    let a = c .before .before .before .before .before .before .before .before .args in
-    room (a .s .now) (a .out .now) (omega arith) (c .before .before .write-listing .ensures)
+    let a = c .before .before .before .before .before .before .before .before .before .args in
+    room _ (a .s .now) (a .out .now) (omega arith) (c .before .before .write-listing .ensures)
 
 pub listing-into-spec : {M : Type 1} → statement M
 listing-into-spec =

@@ -7,20 +7,21 @@ use mathlib.Core.Path.{_≡_, refl, sym, _∙_}
 use lib.ListN.{length}
 use lib.Seq.{length-take-le}
 use Rattle.listing.specs.Text.{textRoom}
+use Rattle.pack.specs.Loop.{over}
 use Rattle.player.proofs.Loops.{line-kept, made-none, made-more}
 use Rattle.player.specs.Steps.{Made}
 use Rattle.printer.proofs.fill.Statement.{statement}
 use Rattle.printer.proofs.fill.Tie as tie
 
 abbrev Inv-loop : tie.InvT-loop
-Inv-loop s steps out₀ p₀ line₀ at₀ left₀ out p line at left =
-    (length line ≡ textRoom) × (length out ≡ length out₀) × (at ≤ length out) × Made s p₀ steps out₀ p left at out
+Inv-loop s pack steps out₀ p₀ line₀ at₀ left₀ out p line at left =
+    (length line ≡ textRoom) × (length out ≡ length out₀) × (at ≤ length out) × Made (over pack) s p₀ steps out₀ p left at out
 
 abbrev μ-loop : tie.MeasureT-loop
-μ-loop s steps out₀ p₀ line₀ at₀ left₀ out p line at left = left
+μ-loop s pack steps out₀ p₀ line₀ at₀ left₀ out p line at left = left
 
 loop-holds : tie.Need-loop-holds Inv-loop μ-loop
-loop-holds c = (refl, refl, omega arith, made-none _ _ _ _)
+loop-holds c = (refl, refl, omega arith, made-none _ _ _ _ _)
 
 is-nothing-requires : tie.Need-is-nothing-requires Inv-loop μ-loop
 is-nothing-requires c κs = search needs
@@ -64,8 +65,8 @@ add-at : tie.Need-add-at Inv-loop μ-loop
 add-at c =
     let room = c .before .before .before .before .before .before .before in
     let l = room .before .before .before .before .loop in
-    let start = room .before .before .before .before .before .before .before in
-    omega (arith, start .good .1 .1 .1 .0 .0, room .if2 .left, c .before .before .before .before .before .step .ensures .fits, l .inv .1, l .inv .2)
+    let start = room .before .before .before .before .before .before .before .before in
+    omega (arith, start .good .1 .1 .1 .1 .0 .0, room .if2 .left, c .before .before .before .before .before .step .ensures .fits, l .inv .1, l .inv .2)
 
 sub-left : tie.Need-sub-left Inv-loop μ-loop
 sub-left c = omega (arith, c .before .before .before .before .before .before .before .before .before .before .before .loop-test .taken)

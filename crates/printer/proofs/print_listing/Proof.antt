@@ -6,6 +6,7 @@ use mathlib.Core.Logic.{inl, inr}
 use mathlib.Core.Path.{_≡_, refl, sym, _∙_}
 use lib.ListN.{length}
 use lib.Seq.{length-take-le}
+use Rattle.pack.specs.Loop.{over}
 use Rattle.player.specs.Steps.{mostSteps}
 use Rattle.printer.specs.Fills.{room}
 use Rattle.printer.proofs.Fills.{fill-steps, Handed, handed-none, handed-more, handed-all, handed-within}
@@ -13,16 +14,16 @@ use Rattle.printer.proofs.print_listing.Statement.{statement}
 use Rattle.printer.proofs.print_listing.Tie as tie
 
 abbrev Inv-loop : tie.InvT-loop
-Inv-loop to s out₀ p₀ left₀ done₀ out p left done = (length out ≡ room) × (done + room * left ≤ room * mostSteps) × Handed s p left done
+Inv-loop to s pack out₀ p₀ left₀ done₀ out p left done = (length out ≡ room) × (done + room * left ≤ room * mostSteps) × Handed (over pack) s p left done
 
 abbrev μ-loop : tie.MeasureT-loop
-μ-loop to s out₀ p₀ left₀ done₀ out p left done = left
+μ-loop to s pack out₀ p₀ left₀ done₀ out p left done = left
 
 start-requires : tie.Need-start-requires Inv-loop μ-loop
 start-requires c κs = search needs
 
 loop-holds : tie.Need-loop-holds Inv-loop μ-loop
-loop-holds c = (refl, omega arith, rw (c .start .ensures) (handed-none _))
+loop-holds c = (refl, omega arith, rw (c .start .ensures) (handed-none _ _))
 
 is-nothing-requires : tie.Need-is-nothing-requires Inv-loop μ-loop
 is-nothing-requires c κs = search needs
@@ -43,7 +44,7 @@ slice-aggregate-write-all : tie.Need-slice-aggregate-write-all Inv-loop μ-loop
 slice-aggregate-write-all c =
     let filled = c .before .before in
     let l = filled .before .before .before .before .before .loop in
-    sym (length-take-le _ _ (omega (arith, filled .fill .kept .1 .1 .1 .0, filled .fill .ensures .fits, l .inv .0)))
+    sym (length-take-le _ _ (omega (arith, filled .fill .kept .1 .1 .1 .1 .0, filled .fill .ensures .fits, l .inv .0)))
 
 write-all-requires : tie.Need-write-all-requires Inv-loop μ-loop
 write-all-requires c κs = search needs
@@ -74,7 +75,7 @@ loop-again c =
     let told = c .before .before .before .before .before .before .before in
     let going = sym (told .before .is-nothing .ensures) ∙ told .if1 .left in
     let fewer = fill-steps (part .ensures) (omega (arith, l .inv .0)) (turn .loop-test .taken) going in (
-      omega (arith, part .kept .1 .1 .1 .0, l .inv .0),
+      omega (arith, part .kept .1 .1 .1 .1 .0, l .inv .0),
       omega (arith, part .ensures .fits, l .inv .0, l .inv .1, fewer),
       handed-more (l .inv .2) (part .ensures),
     )

@@ -8,10 +8,10 @@ use Rattle.replay_cases.proofs.replay.Statement.{statement}
 use Rattle.replay_cases.proofs.replay.Tie as tie
 
 abbrev Inv-loop : tie.InvT-loop
-Inv-loop file head₀ score₀ number₀ head score number = (length head ≡ 4) × (length score ≡ 65537) × (number ≤ 65536)
+Inv-loop file pack head₀ score₀ number₀ head score number = (length head ≡ 4) × (length score ≡ 65537) × (number ≤ 65536)
 
 abbrev μ-loop : tie.MeasureT-loop
-μ-loop file head₀ score₀ number₀ head score number = 65536 - number
+μ-loop file pack head₀ score₀ number₀ head score number = 65536 - number
 
 loop-holds : tie.Need-loop-holds Inv-loop μ-loop
 loop-holds c = (refl, refl, omega arith)

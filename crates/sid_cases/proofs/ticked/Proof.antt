@@ -4,10 +4,10 @@ use Rattle.sid_cases.proofs.ticked.Statement.{statement}
 use Rattle.sid_cases.proofs.ticked.Tie as tie
 
 abbrev Inv-loop : tie.InvT-loop
-Inv-loop clocks chip₀ answer₀ left₀ chip answer left = Unit
+Inv-loop engine clocks pack chip₀ answer₀ left₀ chip answer left = Unit
 
 abbrev μ-loop : tie.MeasureT-loop
-μ-loop clocks chip₀ answer₀ left₀ chip answer left = left
+μ-loop engine clocks pack chip₀ answer₀ left₀ chip answer left = left
 
 pub ticked-spec : {M : Type 1} → statement M
 ticked-spec =
@@ -16,8 +16,6 @@ ticked-spec =
     Inv-loop
     μ-loop
     (λ c. search needs)
-    (λ c κs. search needs)
-    (λ c κs. search needs)
     (λ c κs. search needs)
     (λ c κs. search needs)
     (λ c. search needs)

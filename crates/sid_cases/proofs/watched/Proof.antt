@@ -4,10 +4,10 @@ use Rattle.sid_cases.proofs.watched.Statement.{statement}
 use Rattle.sid_cases.proofs.watched.Tie as tie
 
 abbrev Inv-loop : tie.InvT-loop
-Inv-loop address clocks chip₀ answer₀ left₀ chip answer left = Unit
+Inv-loop engine address clocks pack chip₀ answer₀ left₀ chip answer left = Unit
 
 abbrev μ-loop : tie.MeasureT-loop
-μ-loop address clocks chip₀ answer₀ left₀ chip answer left = left
+μ-loop engine address clocks pack chip₀ answer₀ left₀ chip answer left = left
 
 pub watched-spec : {M : Type 1} → statement M
 watched-spec =
@@ -16,8 +16,6 @@ watched-spec =
     Inv-loop
     μ-loop
     (λ c. search needs)
-    (λ c κs. search needs)
-    (λ c κs. search needs)
     (λ c κs. search needs)
     (λ c κs. search needs)
     (λ c κs. search needs)

@@ -16,8 +16,12 @@ const AIMED_SCORES: u32 = 24;
 const FLOAT_WHOLE: u32 = 1_260_019;
 
 pub fn scores() -> Vec<u8> {
+    scores_in_one(&all())
+}
+
+pub fn scores_in_one(scores: &[Vec<u8>]) -> Vec<u8> {
     let mut bytes = Vec::new();
-    for score in all() {
+    for score in scores {
         bytes.extend((score.len() as u32).to_le_bytes());
         bytes.extend(score);
     }
@@ -28,10 +32,13 @@ pub fn listings() -> Vec<u8> {
     let mut chip = Mos6581::new();
     let mut text = String::new();
     for (number, score) in all().iter().enumerate() {
-        text += &format!("score {number}\n");
-        text += &score::listing(score, &mut chip);
+        text += &listing_in_one(number, &score::listing(score, &mut chip));
     }
     text.into_bytes()
+}
+
+pub fn listing_in_one(number: usize, listing: &str) -> String {
+    format!("score {number}\n{listing}")
 }
 
 fn all() -> Vec<Vec<u8>> {

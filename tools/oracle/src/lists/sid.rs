@@ -1,5 +1,6 @@
 //! The list `sid`: calls on the whole chip, in order. Records are described in `src/calls.rs`.
 
+use super::packs;
 use crate::aim;
 use crate::calls::Call::{
     Code, Held, Level, New, Read, Reset, Run, SetPotX, SetPotY, Tick, Watch, Write,
@@ -13,11 +14,11 @@ const SEED: u64 = 6581 * 29;
 const AIMED_ROUNDS: u32 = 16;
 const AIMED_TICKS: u64 = 5_000;
 
-const FLOAT_WHOLE: u32 = 1_260_019;
-const LEAK_INTERVAL: u32 = 65_536;
+pub const FLOAT_WHOLE: u32 = 1_260_019;
+pub const LEAK_INTERVAL: u32 = 65_536;
 /// Clocks for which lines float before a test is entered whose 16th leak falls on their last.
 const TEST_BEFORE_LAST_LEAK: u32 = FLOAT_WHOLE + 1 - 16 * LEAK_INTERVAL;
-const TEST: u8 = 0x08;
+pub const TEST: u8 = 0x08;
 
 /// Places at which the registers are seen, too.
 const MIRRORS: [u16; 5] = [0x0000, 0x0020, 0x00e0, 0xd400, 0xffe0];
@@ -47,11 +48,12 @@ pub fn list() -> Vec<u8> {
     for _ in 0..AIMED_ROUNDS {
         aim::calls(&mut recorder, &mut random, AIMED_TICKS, 1_000);
     }
+    packs::play(&mut recorder);
     recorder.records
 }
 
 /// A voice's frequency, width, attack and decay, sustain and release, and control, in this order.
-fn voice(number: usize, frequency: u16, width: u16, rates: u16, control: u8) -> [Call; 7] {
+pub fn voice(number: usize, frequency: u16, width: u16, rates: u16, control: u8) -> [Call; 7] {
     let base = 7 * number as u16;
     let [frequency_low, frequency_high] = frequency.to_le_bytes();
     let [width_low, width_high] = width.to_le_bytes();
@@ -67,7 +69,7 @@ fn voice(number: usize, frequency: u16, width: u16, rates: u16, control: u8) -> 
     ]
 }
 
-fn control(number: usize, value: u8) -> Call {
+pub fn control(number: usize, value: u8) -> Call {
     Write(7 * number as u16 + 4, value)
 }
 
@@ -445,7 +447,7 @@ fn shift_and_write_back(recorder: &mut Recorder, random: &mut Random) {
 }
 
 /// Clocks in which 23 shifts fall, at the frequency of `fill_noise`.
-const ALL_STAGES: u32 = 420;
+pub const ALL_STAGES: u32 = 420;
 
 /// A voice with noise alone, from a full register, some shifts on.
 fn fill_noise(recorder: &mut Recorder, number: usize, random: &mut Random) {
@@ -751,7 +753,7 @@ fn drain_all_stages(recorder: &mut Recorder, clocks: u32) {
     select_all(recorder, 0x88);
 }
 
-fn select_all(recorder: &mut Recorder, value: u8) {
+pub fn select_all(recorder: &mut Recorder, value: u8) {
     recorder.make(&[control(0, value), control(1, value), control(2, value)]);
 }
 

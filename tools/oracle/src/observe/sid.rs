@@ -1,5 +1,5 @@
-/// Beside the original chip: its bus, its oscillators' cycles, whether their leaks come singly, and
-/// the chip made new without its tables, which never change.
+/// Beside the original chip: its bus, its oscillators' cycles, whether their leaks come singly, its
+/// tables, which others may replace, and the chip made new but for them.
 impl Mos6581 {
     pub fn bus(&self) -> &InternalDataBus {
         &self.data_bus
@@ -13,6 +13,10 @@ impl Mos6581 {
         self.oscillators
             .iter()
             .all(Oscillator::leaks_by_single_steps)
+    }
+
+    pub fn tables(&mut self) -> &mut GeneratedWaveShapes {
+        &mut self.waveforms
     }
 
     pub fn renew(&mut self) {

@@ -5,32 +5,32 @@ use native.Mathlib.Omega.{arith}
 use Prim.Native.Nat.{_+_, _-_}
 use mathlib.Core.Path.{_≡_}
 use Rattle.laws.specs.Times.{times}
-use Rattle.panel.specs.Panel.{ranTo}
+use Rattle.panel.specs.Panel.{ranToBy}
 use Rattle.panel.proofs.Panel.run_to.Statement.{statement}
 use Rattle.panel.proofs.Panel.run_to.Tie as tie
 
-sub-run : tie.Need-sub-run
-sub-run c = search needs
+sub-run-over : tie.Need-sub-run-over
+sub-run-over c = search needs
 
-cast-run : tie.Need-cast-run
-cast-run c = search needs
+cast-run-over : tie.Need-cast-run-over
+cast-run-over c = search needs
 
-run-requires : tie.Need-run-requires
-run-requires c κs = search needs
+run-over-requires : tie.Need-run-over-requires
+run-over-requires c κs = search needs
 
 returns : tie.Need-returns
-unfolding ranTo
+unfolding ranToBy
 returns c =
-    let a = c .before .before .before .args in
+    let a = c .before .before .before .before .args in
     let e : a .self .clock + (a .stamp - a .self .clock) ≡ a .stamp = omega arith in
-    rw e (simp (c .run .ensures))
+    rw e (simp (c .run-over .ensures))
 
 returns-2 : tie.Need-returns-2
-unfolding ranTo times
+unfolding ranToBy times
 returns-2 c =
-    let a = c .before .args in
+    let a = c .before .before .args in
     let e : a .stamp - a .self .clock ≡ 0 = omega arith in
     rw (e, add-zero)
 
 pub run-to-spec : {M : Type 1} → statement M
-run-to-spec = tie.close (tie.spec sub-run cast-run run-requires returns returns-2)
+run-to-spec = tie.close (tie.spec sub-run-over cast-run-over run-over-requires returns returns-2)

@@ -12,8 +12,8 @@ enum-told c = search needs
 
 returns : tie.Need-returns
 returns c =
-    let a = c .before .before .before .before .args in
-    rw (turn-nothing (a .s .now) (a .self) (c .enum-told .given .1))
+    let a = c .before .before .before .before .before .args in
+    rw (turn-nothing _ (a .s .now) (a .self) (c .enum-told .given .1))
     (record { player = ap (player (a .self .panel)) (c .enum-told .given .1); put = record { place = refl; bytes = refl }; fits = lit≤ tt })
 
 enum-known-rest : tie.Need-enum-known-rest
@@ -24,8 +24,8 @@ refuse-requires c κs = search needs
 
 returns-2 : tie.Need-returns-2
 returns-2 c =
-    let a = c .before .before .before .before .before .before .before .args in
-    rw (turn-refusal (a .s .now) (a .self) (c .before .before .before .rest .given .1)) (c .refuse .ensures)
+    let a = c .before .before .before .before .before .before .before .before .args in
+    rw (turn-refusal _ (a .s .now) (a .self) (c .before .before .before .rest .given .1)) (c .refuse .ensures)
 
 enum-known-rest-2 : tie.Need-enum-known-rest-2
 enum-known-rest-2 c = search needs
@@ -41,9 +41,9 @@ refuse-requires-2 c κs = search needs
 
 returns-3 : tie.Need-returns-3
 returns-3 c =
-    let a = c .before .before .before .before .before .before .before .before .before .before .before .args in
+    let a = c .before .before .before .before .before .before .before .before .before .before .before .before .args in
     let read = sym (c .before .before .before .before .before .read-field .ensures) ∙ c .before .before .before .r .given .1 in
-    rw (turn-read (a .s .now) (a .self) (c .before .before .before .before .before .before .before .rest2 .given .1) read) (c .refuse2 .ensures)
+    rw (turn-read _ (a .s .now) (a .self) (c .before .before .before .before .before .before .before .rest2 .given .1) read) (c .refuse2 .ensures)
 
 enum-known-f : tie.Need-enum-known-f
 enum-known-f c = search needs
@@ -53,9 +53,9 @@ play-field-requires c κs = search needs
 
 returns-4 : tie.Need-returns-4
 returns-4 c =
-    let a = c .before .before .before .before .before .before .before .before .before .before .before .args in
+    let a = c .before .before .before .before .before .before .before .before .before .before .before .before .args in
     let read = sym (c .before .before .before .before .before .read-field .ensures) ∙ c .before .before .before .f .given .1 in
-    rw (turn-read (a .s .now) (a .self) (c .before .before .before .before .before .before .before .rest2 .given .1) read) (c .play-field .ensures)
+    rw (turn-read _ (a .s .now) (a .self) (c .before .before .before .before .before .before .before .rest2 .given .1) read) (c .play-field .ensures)
 
 pub step-spec : {M : Type 1} → statement M
 step-spec =
