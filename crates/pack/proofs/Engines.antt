@@ -14,16 +14,15 @@ use Rattle.laws.proofs.Bools.{and-left, and-right, implies}
 use Rattle.laws.proofs.Table.{at}
 use Rattle.waveforms.specs.Waveforms.{drivers, settled, needsLoading, loaded}
 use Rattle.waveforms.proofs.Loading.{settled-cut}
-use Rattle.oscillator.specs.Ways.{loading}
+use Rattle.oscillator.specs.Ways.{loading, stepwise}
 use Rattle.oscillator.specs.Oscillator.{selected, loadsLines, loadedCodeBy}
 use Rattle.oscillator.specs.declared.Control.{Control}
 use Rattle.oscillator.specs.declared.Oscillator.{Oscillator}
 use Rattle.oscillator.proofs.Alike.{Alike}
-use Rattle.sid.specs.Sid.{tickedBy, ticked, nextCycle}
+use Rattle.sid.specs.Sid.{tickedBy, ticked, nextCycle, Call, afterBy, after}
 use Rattle.sid.specs.declared.Mos6581.{Mos6581}
-use Rattle.sid.proofs.Ticks.{chip-alike}
-use Rattle.pack.specs.Pack.{packLength, blockOf, selectionOf, entryAt, settledEntry, filled, packed}
-use Rattle.pack.specs.Loop.{loadedOver, over}
+use Rattle.sid.proofs.Ticks.{chip-alike, after-alike}
+use Rattle.pack.specs.Pack.{packLength, blockOf, selectionOf, entryAt, settledEntry, filled, packed, loadedOver, over}
 use Rattle.pack.proofs.Filling.{block-entry}
 
 filled-length : length filled ≡ packLength
@@ -97,6 +96,10 @@ settles k e code = rw (and-right (not (eqb (selected k .raw) 9)) (needsLoading (
 -- selection'
 pub filled-plain : (c : Mos6581) → tickedBy (packed filled) c ≡ ticked c
 filled-plain = loads-alike (λ s code. getD filled (entryAt s code) 0) loaded (λ k e code. filled-entry k e code ∙ sym (settles k e code))
+
+-- and so do its calls, of any run of them
+pub after-filled : (calls : List Call) (c : Mos6581) → afterBy (packed filled) calls c ≡ after calls c
+after-filled = after-alike (packed filled) stepwise filled-plain
 
 -- what the bodies do with a pack: with one of 45,056 entries, and with none
 pub over-packed : (pack : List ℕ) → length pack ≡ packLength → (c : Mos6581) → tickedBy (over pack) c ≡ tickedBy (packed pack) c

@@ -6,8 +6,7 @@ use lib.ListN.{length, getD}
 use borrow.Author.Tests.{lt-ltb, le-ltb}
 use Rattle.oscillator.specs.Oscillator.{selected, loadedCodeBy, loadedCode}
 use Rattle.oscillator.specs.declared.Control.{Control}
-use Rattle.pack.specs.Pack.{blockOf, entryAt}
-use Rattle.pack.specs.Loop.{loadedOver}
+use Rattle.pack.specs.Pack.{blockOf, entryAt, loadedOver}
 
 module _ (pack : List ℕ) (k : Control) (code : ℕ) {base at : ℕ} (b : base ≡ blockOf (selected k .raw) * 4096) (e : at ≡ base + code % 4096) where
   entry-at : at ≡ entryAt (selected k .raw) code

@@ -7,7 +7,7 @@ use lib.Dec.{eqb, ltb}
 use lib.ListN.{length, getD}
 use Rattle.laws.specs.Build.{build}
 use Rattle.refusals.specs.Refusals.{Told, numbered}
-use Rattle.waveforms.specs.Waveforms.{settled}
+use Rattle.waveforms.specs.Waveforms.{settled, loaded}
 use Rattle.oscillator.specs.Ways.{Ways, loading}
 
 -- ---- 'one lent pack of 45,056 entries, eleven blocks for selections 3, 5, 6, 7 and 9 to 15 in that order'
@@ -53,3 +53,12 @@ packAfter before = cond (eqb (length before) packLength) filled before
 
 abbrev pub packed : List ℕ → Ways
 packed pack = loading (λ s code. getD pack (entryAt s code) 0)
+
+-- ---- a lent slice of any length: a code's entry where it has it; where not, the code is settled afresh. `over-packed`,
+-- `over-empty` (proofs/Engines): one of 45,056 entries is the pack's engine, an empty one the plain one
+
+unfoldable pub loadedOver : List ℕ → ℕ → ℕ → ℕ
+loadedOver pack s code = cond (ltb (entryAt s code) (length pack)) (getD pack (entryAt s code) 0) (loaded s code)
+
+abbrev pub over : List ℕ → Ways
+over pack = loading (loadedOver pack)

@@ -3,7 +3,7 @@ use sid::Answer;
 use sid::Mos6581;
 ghost use mathlib.Core.Path.{_≡_};
 ghost use Rattle.sid.specs.Sid.{told};
-ghost use Rattle.pack.specs.Loop.{over};
+ghost use Rattle.pack.specs.Pack.{over};
 ghost use Rattle.panel.specs.Panel.{fresh, ranToBy, written, readOf, levels, codeTold, levelTold, shownTold};
 
 pub struct Panel {

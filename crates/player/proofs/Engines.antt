@@ -4,8 +4,7 @@ use Prim.Native.Nat.{ℕ, _+_, _-_}
 use mathlib.Core.List.{List, [], _∷_, _++_}
 use mathlib.Core.Path.{_≡_, refl, ap, _∙_}
 use Rattle.oscillator.specs.Ways.{Ways, stepwise}
-use Rattle.pack.specs.Pack.{filled}
-use Rattle.pack.specs.Loop.{over}
+use Rattle.pack.specs.Pack.{filled, over}
 use Rattle.pack.proofs.Engines.{over-filled, over-empty}
 use Rattle.panel.specs.declared.Panel.{Panel}
 use Rattle.panel.specs.Panel.{fresh, ranToBy}

@@ -12,7 +12,7 @@ ghost use mathlib.Core.Path.{_≡_};
 ghost use Prim.Native.Nat.{_≤_};
 ghost use lib.ListN.{length};
 ghost use Rattle.listing.specs.Text.{Put};
-ghost use Rattle.pack.specs.Loop.{over};
+ghost use Rattle.pack.specs.Pack.{over};
 ghost use Rattle.player.specs.Into.{intoAnswer, intoBuffer};
 ghost use Rattle.player.specs.Listing.{listingBy};
 ghost use Rattle.player.specs.Steps.{startOf, isNothing, onField, onRefusal, turn, Does};

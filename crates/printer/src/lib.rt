@@ -2,7 +2,7 @@
 use listing::TEXT;
 use player::Player;
 ghost use Rattle.oscillator.specs.Ways.{stepwise};
-ghost use Rattle.pack.specs.Loop.{over};
+ghost use Rattle.pack.specs.Pack.{over};
 ghost use Rattle.printer.specs.Fills.{Fills, Prints};
 
 // How far a buffer was filled: the player there, the steps left, and the bytes.

@@ -12,8 +12,7 @@ ghost use mathlib.Core.Path.{_≡_};
 ghost use lib.ListN.{length};
 ghost use Rattle.tables.specs.Tables.{told};
 ghost use Rattle.sid.specs.Sid.{ticks, ticksBy};
-ghost use Rattle.pack.specs.Pack.{refusal};
-ghost use Rattle.pack.specs.Loop.{over};
+ghost use Rattle.pack.specs.Pack.{refusal, over};
 ghost use Rattle.run.specs.Answers.{packRan};
 
 // What a run over a pack gives: where it is refused, the chip as it was.

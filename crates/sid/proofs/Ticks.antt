@@ -1,8 +1,9 @@
 -- One tick of the chip, by any ways, out of its parts, which a loop may hold apart; ways that tick each voice alike tick
--- the chip alike (`chip-alike`), any number of times (`ticks-alike`). Assumes nothing.
+-- the chip alike (`chip-alike`), any number of times (`ticks-alike`) and in any run of calls (`after-alike`). Assumes
+-- nothing.
 use mathlib.Core.Path.{_≡_, refl, ap, ap₂, sym, _∙_}
 use mathlib.Core.Bool.{Bool, true, false, cond}
-use mathlib.Core.List.{List}
+use mathlib.Core.List.{List, [], _∷_}
 use Prim.Native.Nat.{ℕ, zero, suc}
 use Rattle.laws.specs.Times.{times}
 use Rattle.bus.specs.Bus.{clocked as Bus·clocked}
@@ -23,7 +24,7 @@ use Rattle.oscillator.specs.declared.Tone.{Tone}
 use Rattle.oscillator.specs.declared.Oscillator.{Oscillator}
 use Rattle.oscillator.proofs.Alike.{Alike, tick-alike}
 use Rattle.oscillator.proofs.Parts.{voice, tick-parts}
-use Rattle.sid.specs.Sid.{clockedVoiceBy, nextCycle, clockedBy, voicedBy, phaseOf, voiced0By, voiced1By, voiced2By, synchronisedIf, synced, synchronised, tickedBy, ticksBy}
+use Rattle.sid.specs.Sid.{clockedVoiceBy, nextCycle, clockedBy, voicedBy, phaseOf, voiced0By, voiced1By, voiced2By, synchronisedIf, synced, synchronised, tickedBy, ticksBy, Call, write, read, tick, clear, potX, potY, calledBy, afterBy}
 use Rattle.sid.specs.declared.Voice.{Voice}
 use Rattle.sid.specs.declared.Mos6581.{Mos6581}
 
@@ -145,3 +146,21 @@ pub ticks-alike
 unfolding times
 ticks-alike ways others same zero c = refl
 ticks-alike ways others same (suc n) c = same (ticksBy ways n c) ∙ ap (tickedBy others) (ticks-alike ways others same n c)
+
+call-alike
+    : (ways others : Ways) → ((c : Mos6581) → tickedBy ways c ≡ tickedBy others c) → (call : Call) (c : Mos6581) → calledBy ways call c ≡ calledBy others call c
+unfolding calledBy
+call-alike ways others same (write address value) c = refl
+call-alike ways others same (read address) c = refl
+call-alike ways others same tick c = same c
+call-alike ways others same clear c = refl
+call-alike ways others same (potX value) c = refl
+call-alike ways others same (potY value) c = refl
+
+-- and so does any run of calls
+pub after-alike
+    : (ways others : Ways) → ((c : Mos6581) → tickedBy ways c ≡ tickedBy others c) → (calls : List Call) (c : Mos6581) → afterBy ways calls c ≡ afterBy others calls c
+unfolding afterBy
+after-alike ways others same [] c = refl
+after-alike ways others same (call ∷ calls) c =
+    ap (afterBy ways calls) (call-alike ways others same call c) ∙ after-alike ways others same calls (calledBy others call c)

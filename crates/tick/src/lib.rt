@@ -12,8 +12,7 @@ ghost use mathlib.Core.Path.{_≡_};
 ghost use lib.ListN.{length};
 ghost use Rattle.tables.specs.Tables.{told};
 ghost use Rattle.sid.specs.Sid.{ticked, tickedBy};
-ghost use Rattle.pack.specs.Pack.{refusal};
-ghost use Rattle.pack.specs.Loop.{over};
+ghost use Rattle.pack.specs.Pack.{refusal, over};
 ghost use Rattle.tick.specs.Outputs.{outputs, packTicked};
 
 // What a tick gives: the chip after it, the codes and the levels of its voices.

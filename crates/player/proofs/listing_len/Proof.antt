@@ -5,7 +5,7 @@ use Prim.Native.Nat.{_*_, _+_, _≤_}
 use mathlib.Core.Path.{_∙_, _≡_, ap, sym}
 use lib.ListN.{length}
 use Rattle.listing.specs.Text.{textRoom}
-use Rattle.pack.specs.Loop.{over}
+use Rattle.pack.specs.Pack.{over}
 use Rattle.player.proofs.Loops.{lines-over, lines-none, len-first, len-more}
 use Rattle.player.specs.Listing.{listingBy}
 use Rattle.player.specs.Steps.{lines, mostSteps}

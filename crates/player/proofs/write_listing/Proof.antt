@@ -5,7 +5,7 @@ use mathlib.Core.Path.{_≡_, refl, sym, _∙_}
 use lib.ListN.{length}
 use lib.Seq.{length-take-le}
 use Rattle.listing.specs.Text.{textRoom}
-use Rattle.pack.specs.Loop.{over}
+use Rattle.pack.specs.Pack.{over}
 use Rattle.player.proofs.Loops.{lines-over, lines-none, line-kept, made-none, made-more, listed-room, listed-all}
 use Rattle.player.specs.Steps.{startOf, mostSteps, Made}
 use Rattle.player.proofs.write_listing.Statement.{statement}

@@ -7,7 +7,7 @@ use mathlib.Core.Path.{_≡_, refl, sym, _∙_}
 use lib.ListN.{length}
 use lib.Seq.{length-take-le}
 use Rattle.listing.specs.Text.{textRoom}
-use Rattle.pack.specs.Loop.{over}
+use Rattle.pack.specs.Pack.{over}
 use Rattle.player.proofs.Loops.{line-kept, made-none, made-more}
 use Rattle.player.specs.Steps.{Made}
 use Rattle.printer.proofs.fill.Statement.{statement}

@@ -6,7 +6,7 @@ use mathlib.Core.Logic.{inl, inr}
 use mathlib.Core.Path.{_≡_, refl, sym, _∙_}
 use lib.ListN.{length}
 use lib.Seq.{length-take-le}
-use Rattle.pack.specs.Loop.{over}
+use Rattle.pack.specs.Pack.{over}
 use Rattle.player.specs.Steps.{mostSteps}
 use Rattle.printer.specs.Fills.{room}
 use Rattle.printer.proofs.Fills.{fill-steps, Handed, handed-none, handed-more, handed-all, handed-within}

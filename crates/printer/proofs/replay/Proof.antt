@@ -7,7 +7,7 @@ use denote.Ref.{now}
 use Rattle.oscillator.specs.Ways.{stepwise}
 use Rattle.player.proofs.Engines.{listing-filled}
 use Rattle.player.specs.Listing.{listingBy}
-use Rattle.pack.specs.Loop.{over}
+use Rattle.pack.specs.Pack.{over}
 use Rattle.pack.proofs.Filling.{right-length}
 use Rattle.printer.proofs.Fills.{prints-same}
 use Rattle.printer.proofs.replay.Statement.{statement}

@@ -4,7 +4,7 @@ use mathlib.Core.List.{[]}
 use mathlib.Core.Path.{_∙_}
 use Rattle.oscillator.specs.Ways.{stepwise}
 use Rattle.sid.proofs.Ticks.{ticks-alike}
-use Rattle.pack.specs.Loop.{over}
+use Rattle.pack.specs.Pack.{over}
 use Rattle.pack.proofs.Engines.{over-empty}
 use Rattle.run.proofs.run.Statement.{statement}
 use Rattle.run.proofs.run.Tie as tie

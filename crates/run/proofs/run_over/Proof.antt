@@ -12,7 +12,7 @@ use Rattle.sid.specs.declared.Mos6581.{Mos6581}
 use Rattle.envelope.specs.Envelope.{levelRead, rateClocked, quiescent}
 use Rattle.envelope.specs.declared.Envelope.{Envelope}
 use Rattle.envelope.proofs.Quiet.{quiet-next}
-use Rattle.pack.specs.Loop.{loadedOver, over}
+use Rattle.pack.specs.Pack.{loadedOver, over}
 use Rattle.pack.proofs.Lookup.{entry-read, entry-lacks}
 use Rattle.laws.specs.Times.{times}
 use Prim.Native.Nat.{ℕ, _-_, _^_, _<_, _≤_}

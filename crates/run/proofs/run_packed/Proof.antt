@@ -6,8 +6,7 @@ use native.Mathlib.Omega.{arith}
 use denote.Ref.{now}
 use lib.ListN.{length}
 use Rattle.sid.proofs.Ticks.{ticks-alike}
-use Rattle.pack.specs.Pack.{packLength, packed}
-use Rattle.pack.specs.Loop.{over}
+use Rattle.pack.specs.Pack.{packLength, packed, over}
 use Rattle.pack.proofs.Engines.{over-packed}
 use Rattle.pack.proofs.Filling.{wrong-length, right-length}
 use Rattle.run.specs.Answers.{packRan}

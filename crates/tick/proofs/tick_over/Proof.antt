@@ -6,7 +6,7 @@ use Rattle.oscillator.proofs.Due.{loading-still}
 use Rattle.sid.proofs.Turn.{fades, empty, turn, judged, round}
 use Rattle.laws.proofs.After.{taken, left}
 use Rattle.sid.specs.declared.Mos6581.{Mos6581}
-use Rattle.pack.specs.Loop.{loadedOver, over}
+use Rattle.pack.specs.Pack.{loadedOver, over}
 use Rattle.pack.proofs.Lookup.{entry-read, entry-lacks}
 use Rattle.tick.specs.Outputs.{outputs}
 use Prim.Native.Nat.{ℕ}
