@@ -31,7 +31,7 @@ lists:
 compare:
 	cd tools/oracle && cargo build --release
 	tools/oracle/target/release/oracle compare-calls 1000 100000 1 sh tools/run.sh target/bin/sid_cases
-	tools/oracle/target/release/oracle compare-scores 5000 1 sh $(CURDIR)/tools/run.sh $(CURDIR)/target/bin/replay_cases
+	tools/oracle/target/release/oracle compare-scores 7500 1 sh $(CURDIR)/tools/run.sh $(CURDIR)/target/bin/replay_cases
 	tools/oracle/target/release/oracle compare-replay 20 1 sh tools/run.sh target/bin/replay
 
 # This chip against the original, scene by scene (docs/PERFORMANCE.md). Needs cargo, and the original as for the lists.

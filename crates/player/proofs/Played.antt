@@ -4,7 +4,6 @@ use Prim.Native.Nat.{ℕ, zero, suc, _+_, _*_, _≤_}
 use native.Mathlib.Omega.{arith}
 use mathlib.Core.List.{List, [], _++_, append-nil}
 use mathlib.Core.Path.{_≡_, refl, ap, sym, subst}
-use lib.Dec.{lit≤}
 use lib.ListN.{length}
 use Rattle.listing.specs.Text.{refusedLine}
 use Rattle.oscillator.specs.Ways.{Ways}
@@ -15,10 +14,10 @@ use Rattle.refusals.specs.Refusals.{told}
 use Rattle.score.specs.declared.Field.{Field}
 use Rattle.score.specs.declared.FieldRead.{FieldRead}
 use Rattle.score.specs.declared.Order.{Order}
-use Rattle.score.specs.Fields.{lenOf, tagAt, fieldAt}
+use Rattle.score.specs.Fields.{fieldAt}
 use Rattle.score.specs.Scores.{Parsed, good, bad, scoreOf, answer, checked, Chain, ends, goes}
 use Rattle.score.proofs.Chains.{score-chain}
-use Rattle.score.proofs.Fields.{stands, tags}
+use Rattle.score.proofs.Fields.{stands, whole-four}
 use Rattle.player.specs.declared.Player.{Player}
 use Rattle.player.specs.declared.Rest.the-variants.{Fields, Refusal, Nothing}
 use Rattle.player.specs.Listing.{playBy, playedBy, listingOfBy, listingBy, panelOfBy}
@@ -75,15 +74,10 @@ plays {s} (ends {at = at} {f = f} e a i) w p (suc n) h = then {t = onField w p f
 plays (goes e a i r) w p zero h = absurd (omega arith)
 plays {s} (goes {at = at} {f = f} e a i r) w p (suc n) h = then {t = onField w p f _} (turn-read w s (player p (Fields at)) refl e) (rw i (plays r w _ n (omega arith)))
 
--- a known tag's length is four or more
-len-four : (tag : ℕ) → (lenOf tag ≡ 0 → ⊥) → 4 ≤ lenOf tag
-unfolding lenOf
-len-four = tags (λ (tag : ℕ). 4 ≤ lenOf tag) (lit≤ tt) (lit≤ tt) (lit≤ tt) (lit≤ tt)
-
 -- each field takes seven bytes or more
 chain-sevens : {s : List ℕ} {at : ℕ} {o : Order} {fs : List Field} → Chain s at o fs → at + 7 * length fs ≤ length s
-chain-sevens {s} {at} (ends e a i) = let st = stands s at e in omega (arith, len-four (tagAt s at) (st .whole .known))
-chain-sevens {s} {at} (goes e a i r) = let st = stands s at e in omega (arith, len-four (tagAt s at) (st .whole .known), chain-sevens r)
+chain-sevens {s} {at} (ends e a i) = let st = stands s at e in omega (arith, whole-four (st .whole))
+chain-sevens {s} {at} (goes e a i r) = let st = stands s at e in omega (arith, whole-four (st .whole), chain-sevens r)
 
 module _ (w : Ways) (s : List ℕ) where
   from

@@ -4,13 +4,13 @@ use mathlib.Core.Path.{_≡_, refl, ap, sym, _∙_}
 use mathlib.Core.List.{[], _∷_}
 use lib.ListN.{getD}
 use Rattle.refusals.specs.declared.Refusal.{Refusal}
-use Rattle.refusals.specs.declared.Refusal.the-variants.{NoTable, TableLength, VoiceNumber, ScoreLength, FieldCut, UnknownTag, FieldLength, StampTooLate, StampFalls, AfterEnd, NoEnd, PackLength}
+use Rattle.refusals.specs.declared.Refusal.the-variants.{NoTable, TableLength, VoiceNumber, ScoreLength, HeaderCut, UnknownTag, FieldLength, StampTooLate, StampFalls, AfterEnd, NoEnd, ValueCut, PackLength}
 use Rattle.refusals.specs.declared.Refused.{Refused}
 use Rattle.refusals.specs.Refusals.{numberOf, refused, Told, told}
 
 named : ℕ → Refusal
 named n =
-    getD (NoTable ∷ TableLength ∷ VoiceNumber ∷ ScoreLength ∷ FieldCut ∷ UnknownTag ∷ FieldLength ∷ StampTooLate ∷ StampFalls ∷ AfterEnd ∷ NoEnd ∷ []) (n - 1) PackLength
+    getD (NoTable ∷ TableLength ∷ VoiceNumber ∷ ScoreLength ∷ HeaderCut ∷ UnknownTag ∷ FieldLength ∷ StampTooLate ∷ StampFalls ∷ AfterEnd ∷ NoEnd ∷ ValueCut ∷ []) (n - 1) PackLength
 
 named-number : (r : Refusal) → named (numberOf r) ≡ r
 unfolding named
@@ -18,13 +18,14 @@ named-number NoTable = refl
 named-number TableLength = refl
 named-number VoiceNumber = refl
 named-number ScoreLength = refl
-named-number FieldCut = refl
+named-number HeaderCut = refl
 named-number UnknownTag = refl
 named-number FieldLength = refl
 named-number StampTooLate = refl
 named-number StampFalls = refl
 named-number AfterEnd = refl
 named-number NoEnd = refl
+named-number ValueCut = refl
 named-number PackLength = refl
 
 pub number-tells : (a b : Refusal) → numberOf a ≡ numberOf b → a ≡ b

@@ -1,9 +1,9 @@
--- Document 01, 'Numbers a caller can get back': the number of each refusal, with the table's words. Every promise of a
--- number cites it.
+-- Document 01, 'Numbers a caller can get back', as document 02 amends it: the number of each refusal, in their words.
+-- Every promise of a number cites it.
 use Prim.Native.Nat.{ℕ}
 use Rattle.refusals.specs.declared.Refused.{Refused}
 use Rattle.refusals.specs.declared.Refusal.{Refusal}
-use Rattle.refusals.specs.declared.Refusal.the-variants.{NoTable, TableLength, VoiceNumber, ScoreLength, FieldCut, UnknownTag, FieldLength, StampTooLate, StampFalls, AfterEnd, NoEnd, PackLength}
+use Rattle.refusals.specs.declared.Refusal.the-variants.{NoTable, TableLength, VoiceNumber, ScoreLength, HeaderCut, UnknownTag, FieldLength, StampTooLate, StampFalls, AfterEnd, NoEnd, ValueCut, PackLength}
 
 abbrev pub numberOf : Refusal → ℕ
 -- table for a selection above 15 or with under two bits; place 0
@@ -14,8 +14,8 @@ numberOf TableLength = 2
 numberOf VoiceNumber = 3
 -- score over 65,536 bytes; place 0
 numberOf ScoreLength = 4
--- field header or value cut off; place: the tag
-numberOf FieldCut = 5
+-- document 02: cut header; place: the first missing byte, the score's length
+numberOf HeaderCut = 5
 -- unknown tag; place: the tag
 numberOf UnknownTag = 6
 -- length not the tag's; place: the tag
@@ -28,6 +28,8 @@ numberOf StampFalls = 9
 numberOf AfterEnd = 10
 -- no end field, empty score included; place: the score's length
 numberOf NoEnd = 11
+-- document 02: cut value; place: the first missing byte, the score's length
+numberOf ValueCut = 12
 -- document 02: pack not 45,056 entries; place 0
 numberOf PackLength = 15
 

@@ -1,4 +1,4 @@
-// The numbers that a caller can get back (document 01, 'Numbers a caller can get back').
+// The numbers that a caller can get back (document 01, 'Numbers a caller can get back', and document 02).
 ghost use mathlib.Core.Path.{_≡_};
 ghost use Rattle.refusals.specs.Refusals.{numberOf};
 
@@ -7,13 +7,14 @@ pub enum Refusal {
     TableLength,
     VoiceNumber,
     ScoreLength,
-    FieldCut,
+    HeaderCut,
     UnknownTag,
     FieldLength,
     StampTooLate,
     StampFalls,
     AfterEnd,
     NoEnd,
+    ValueCut,
     PackLength,
 }
 
@@ -31,13 +32,14 @@ pub fn number(r: Refusal) -> u8
         Refusal::TableLength => 2,
         Refusal::VoiceNumber => 3,
         Refusal::ScoreLength => 4,
-        Refusal::FieldCut => 5,
+        Refusal::HeaderCut => 5,
         Refusal::UnknownTag => 6,
         Refusal::FieldLength => 7,
         Refusal::StampTooLate => 8,
         Refusal::StampFalls => 9,
         Refusal::AfterEnd => 10,
         Refusal::NoEnd => 11,
+        Refusal::ValueCut => 12,
         Refusal::PackLength => 15,
     }
 }

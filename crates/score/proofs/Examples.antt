@@ -1,4 +1,4 @@
--- Document 01's worked score, and its numbers 5 to 11, each with a small score that it is given for. Assumes nothing.
+-- Document 01's worked score, and the numbers 5 to 12, each with a small score that it is given for. Assumes nothing.
 use mathlib.Core.List.{[], _∷_, _++_}
 use mathlib.Core.Path.{_≡_, refl}
 use Rattle.refusals.specs.Refusals.{numbered}
@@ -21,14 +21,16 @@ worked = refl
 
 pub numbers
     : (verdict (checked []) ≡ refuses (numbered 11 0))
-    × (verdict (checked (0x7f ∷ 0x04 ∷ [])) ≡ refuses (numbered 5 0))
+    × (verdict (checked (0x7f ∷ 0x04 ∷ [])) ≡ refuses (numbered 5 2))
+    × (verdict (checked (0x55 ∷ 0x04 ∷ [])) ≡ refuses (numbered 5 2))
     × (verdict (checked (0x00 ∷ 0x04 ∷ 0x00 ∷ [])) ≡ refuses (numbered 6 0))
     × (verdict (checked (0x7f ∷ 0x05 ∷ 0x00 ∷ [])) ≡ refuses (numbered 7 0))
-    × (verdict (checked (0x7f ∷ 0x04 ∷ 0x00 ∷ 0x00 ∷ 0x00 ∷ 0x00 ∷ [])) ≡ refuses (numbered 5 0))
+    × (verdict (checked (0x7f ∷ 0x04 ∷ 0x00 ∷ [])) ≡ refuses (numbered 12 3))
+    × (verdict (checked (0x7f ∷ 0x04 ∷ 0x00 ∷ 0x00 ∷ 0x00 ∷ 0x00 ∷ [])) ≡ refuses (numbered 12 6))
     × (verdict (checked (0x7f ∷ 0x04 ∷ 0x00 ∷ 0x00 ∷ 0xe1 ∷ 0xf5 ∷ 0x05 ∷ [])) ≡ accepts 100000000)
     × (verdict (checked (0x7f ∷ 0x04 ∷ 0x00 ∷ 0x01 ∷ 0xe1 ∷ 0xf5 ∷ 0x05 ∷ [])) ≡ refuses (numbered 8 0))
     × (verdict (checked (0x03 ∷ 0x04 ∷ 0x00 ∷ 0x01 ∷ 0x00 ∷ 0x00 ∷ 0x00 ∷ 0x7f ∷ 0x04 ∷ 0x00 ∷ 0x00 ∷ 0x00 ∷ 0x00 ∷ 0x00 ∷ [])) ≡ refuses (numbered 9 7))
     × (verdict (checked (0x7f ∷ 0x04 ∷ 0x00 ∷ 0x00 ∷ 0x00 ∷ 0x00 ∷ 0x00 ∷ 0x7f ∷ [])) ≡ refuses (numbered 10 7))
     × (verdict (checked (0x03 ∷ 0x04 ∷ 0x00 ∷ 0x00 ∷ 0x00 ∷ 0x00 ∷ 0x00 ∷ [])) ≡ refuses (numbered 11 7))
 unfolding checked scoreOf walk fieldAt lenOf whatOf admit numberAt little
-numbers = (refl, refl, refl, refl, refl, refl, refl, refl, refl, refl)
+numbers = (refl, refl, refl, refl, refl, refl, refl, refl, refl, refl, refl, refl)

@@ -9,7 +9,7 @@ use lib.Dec.{ltb, eqb}
 use lib.ListN.{length, drop}
 use borrow.Author.Tests.{lt-ltb, le-ltb, eq-eqb, ne-eqb, ltb-true, ltb-false, eqb-true, eqb-false, not-true, not-false}
 use Rattle.laws.proofs.Cond.{by-test}
-use Rattle.refusals.specs.declared.Refusal.the-variants.{FieldCut, UnknownTag, FieldLength}
+use Rattle.refusals.specs.declared.Refusal.the-variants.{HeaderCut, UnknownTag, FieldLength, ValueCut}
 use Rattle.refusals.specs.declared.Refused.{Refused}
 use Rattle.score.specs.declared.Field.{Field}
 use Rattle.score.specs.declared.FieldRead.{FieldRead}
@@ -18,7 +18,7 @@ use Rattle.score.specs.Fields.{lenOf, whatOf, refuse, tagAt, saidAt, len
 use Rattle.score.specs.Given.{Whole}
 
 module _ (s : List ℕ) (at : ℕ) where
-  pub header-cut : length s < at + 3 → fieldAt s at ≡ refuse FieldCut at
+  pub header-cut : length s < at + 3 → fieldAt s at ≡ refuse HeaderCut (length s)
   unfolding fieldAt
   header-cut h = simp (lt-ltb (length s) (at + 3) h)
 
@@ -33,7 +33,7 @@ module _ (s : List ℕ) (at : ℕ) where
       length-wrong w = simp (le-ltb (length s) (at + 3) h, sym len, ne-eqb n 0 k, ne-eqb (saidAt s at) n w)
 
       module _ (e : saidAt s at ≡ n) where
-        pub value-cut : length s < at + 3 + n → fieldAt s at ≡ refuse FieldCut at
+        pub value-cut : length s < at + 3 + n → fieldAt s at ≡ refuse ValueCut (length s)
         unfolding fieldAt
         value-cut c = simp (le-ltb (length s) (at + 3) h, sym len, ne-eqb n 0 k, eq-eqb (saidAt s at) n e, lt-ltb (length s) (at + 3 + n) c)
 
@@ -44,10 +44,10 @@ module _ (s : List ℕ) (at : ℕ) where
   -- what holds of every way holds of what is read
   pub by-field
       : (P : FieldRead → Type 0)
-      → (length s < at + 3 → P (refuse FieldCut at))
+      → (length s < at + 3 → P (refuse HeaderCut (length s)))
       → (at + 3 ≤ length s → lenAt s at ≡ 0 → P (refuse UnknownTag at))
       → (at + 3 ≤ length s → (lenAt s at ≡ 0 → ⊥) → (saidAt s at ≡ lenAt s at → ⊥) → P (refuse FieldLength at))
-      → (at + 3 ≤ length s → (lenAt s at ≡ 0 → ⊥) → saidAt s at ≡ lenAt s at → length s < afterAt s at → P (refuse FieldCut at))
+      → (at + 3 ≤ length s → (lenAt s at ≡ 0 → ⊥) → saidAt s at ≡ lenAt s at → length s < afterAt s at → P (refuse ValueCut (length s)))
       → (Whole s at → P (Got (valueAt s at) (afterAt s at)))
       → P (fieldAt s at)
   unfolding fieldAt
@@ -95,3 +95,7 @@ module _ {s : List ℕ} {at : ℕ} (w : Whole s at) where
   pub whole-end : isEnd (valueAt s at .what) ≡ eqb (tagAt s at) 0x7f
   unfolding whatOf
   whole-end = tags (λ (tag : ℕ). isEnd (whatOf tag (drop (at + 3) s)) ≡ eqb tag 0x7f) refl refl refl refl (tagAt s at) (w .known)
+
+  pub whole-four : 4 ≤ lenAt s at
+  unfolding lenOf
+  whole-four = tags (λ (tag : ℕ). 4 ≤ lenOf tag) (omega arith) (omega arith) (omega arith) (omega arith) (tagAt s at) (w .known)

@@ -1,9 +1,10 @@
 -- The check of a score gives a number exactly when document 01's table says, at the table's place. Assumes nothing.
 use Prim.Native.Nat.{ℕ, zero, suc, _+_, _≤_, _<_}
 use native.Mathlib.Omega.{arith}
+use mathlib.Core.Bool.{false}
 use mathlib.Core.List.{List, _∷_}
 use mathlib.Core.Logic.{_↔_}
-use mathlib.Core.Path.{_≡_, refl, ap, subst, sym, _∙_}
+use mathlib.Core.Path.{_≡_, refl, ap, subst, subst₂, sym, _∙_}
 use lib.Dec.{ltb, leb}
 use lib.ListN.{length}
 use borrow.Author.Tests.{ltb-true, ltb-false, leb-true, leb-false, eqb-true, eqb-false, eq-eqb, ne-eqb}
@@ -21,11 +22,11 @@ use Rattle.score.specs.declared.FieldRead.the-variants.{Got}
 use Rattle.score.specs.declared.Order.{Order}
 use Rattle.score.specs.Fields.{valueAt, afterAt, fieldAt, isEnd}
 use Rattle.score.specs.Given.{stampAt, Whole, Timely, Prefix, none, more, Judged}
-use Rattle.score.specs.Given.{Given, row-4, row-5-header, row-6, row-7, row-5-value, row-8, row-9, row-10, row-11}
+use Rattle.score.specs.Given.{Given, row-4, row-5, row-6, row-7, row-12, row-8, row-9, row-10, row-11}
 use Rattle.score.specs.Scores.{Parsed, good, bad, push, afterAdmit, afterRead, walk, scoreOf, answer, checked, refuses, verdict, Chain, ends, goes}
 use Rattle.score.specs.Stamps.{unstamped, admit}
-use Rattle.score.proofs.Fields.{header-cut, tag-unknown, length-wrong, value-cut, by-field, whole-read, whole-end}
-use Rattle.score.proofs.Stamps.{too-late, falls, admitted, by-stamp}
+use Rattle.score.proofs.Fields.{header-cut, tag-unknown, length-wrong, value-cut, by-field, stands, whole-read, whole-end}
+use Rattle.score.proofs.Stamps.{too-late, falls, admitted, by-stamp, admits}
 use Rattle.score.proofs.Walk.{over, unread, unadmitted, surplus, Kept, kept-first, kept-more, kept-end, too-long}
 
 -- number and place, or the clocks, tell the answer
@@ -47,6 +48,22 @@ module _ {s : List ℕ} where
   whole-admitted : {at : ℕ} {o : Order} → Whole s at → Timely s at o → admit o (valueAt s at) ≡ Next (record { last = stampAt s at })
   whole-admitted {at} {o} w t = admitted o (valueAt s at) (t .not-over) (t .not-below)
 
+  -- a field that was read and admitted, and is no end, is one more of those before
+  pub prefix-more
+      : {at next : ℕ} {o o′ : Order} {f : Field}
+      → Prefix s at o
+      → fieldAt s at ≡ Got f next
+      → admit o f ≡ Next o′
+      → isEnd (f .what) ≡ false
+      → Prefix s next o′
+  prefix-more {at} {next} {o} {o′} {f} p e a i =
+      let st = stands s at e in
+      let b : admit o (valueAt s at) ≡ Next o′ = subst (λ (g : Field). admit o g ≡ Next o′) (st .field) a in
+      let j : isEnd (valueAt s at .what) ≡ false = subst (λ (g : Field). isEnd (g .what) ≡ false) (st .field) i in
+      let t : Timely s at o = record { not-over = admits b .not-over; not-below = admits b .not-below } in
+      let q : record { last = stampAt s at } ≡ o′ = cc (whole-admitted (st .whole) t) in
+      subst₂ (λ (n : ℕ) (x : Order). Prefix s n x) (sym (st .ends)) q (more p (st .whole) t (eqb-false _ _ (sym (whole-end (st .whole)) ∙ j)))
+
 -- ---- where a row is given, the check gives its number
 
 prefix-kept : {s : List ℕ} {at : ℕ} {o : Order} → Prefix s at o → Kept s at o
@@ -59,10 +76,10 @@ module _ {s : List ℕ} where
 
   pub given-refused : {number place : ℕ} → Given s number place → verdict (checked s) ≡ refuses (numbered number place)
   given-refused (row-4 h) = ap verdict (too-long s h)
-  given-refused (row-5-header p l h) = refused-at p (λ n. unread n s _ _ l (header-cut s _ h))
+  given-refused (row-5 p l h) = refused-at p (λ n. unread n s _ _ l (header-cut s _ h))
   given-refused (row-6 p h z) = refused-at p (λ n. unread n s _ _ (omega arith) (tag-unknown s _ h refl z))
   given-refused (row-7 p h k e) = refused-at p (λ n. unread n s _ _ (omega arith) (length-wrong s _ h refl k e))
-  given-refused (row-5-value p h k e c) = refused-at p (λ n. unread n s _ _ (omega arith) (value-cut s _ h refl k e c))
+  given-refused (row-12 p h k e c) = refused-at p (λ n. unread n s _ _ (omega arith) (value-cut s _ h refl k e c))
   given-refused (row-8 p w h) = refused-at p (λ n. unadmitted n s _ _ (whole-read w) (too-late _ _ h))
   given-refused (row-9 p w h l) = refused-at p (λ n. unadmitted n s _ _ (whole-read w) (falls _ _ h l))
   given-refused (row-10 p w t e l) = refused-at p (λ n. surplus n s _ _ (whole-read w) (whole-admitted w t) (whole-end w ∙ eq-eqb _ _ e) l)
@@ -105,7 +122,7 @@ module _ (s : List ℕ) where
       means-read : at < length s → Means at o (afterRead (walk n s) s at o (fieldAt s at))
       means-read l =
           by-field s at (λ (r : FieldRead). Means at o (afterRead (walk n s) s at o r))
-          (row-5-header p l) (row-6 p) (row-7 p) (row-5-value p)
+          (row-5 p l) (row-6 p) (row-7 p) (row-12 p)
           (λ w. by-stamp o (valueAt s at) after (row-8 p w) (row-9 p w) (λ h l. means-timely w (record { not-over = h; not-below = l })))
 
   walk-means : (n at : ℕ) (o : Order) → Prefix s at o → length s < at + n → Means at o (walk n s at o)

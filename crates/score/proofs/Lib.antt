@@ -1,4 +1,5 @@
 pub mod Chains
+pub mod Cuts
 pub mod Examples
 pub mod Fields
 pub mod Given

@@ -1,4 +1,4 @@
--- A field of a score: document 01, 'Score and program' and 'Numbers a caller can get back'.
+-- A field of a score: document 01, 'Score and program' and 'Numbers a caller can get back', as document 02 amends it.
 use Prim.Native.Nat.{ℕ, _+_}
 use mathlib.Core.Bool.{Bool, true, false, cond, not}
 use mathlib.Core.List.{List, [], _∷_, _++_}
@@ -6,7 +6,7 @@ use lib.Dec.{ltb, eqb}
 use lib.ListN.{length, drop}
 use Rattle.refusals.specs.Refusals.{refused}
 use Rattle.refusals.specs.declared.Refusal.{Refusal}
-use Rattle.refusals.specs.declared.Refusal.the-variants.{FieldCut, UnknownTag, FieldLength}
+use Rattle.refusals.specs.declared.Refusal.the-variants.{HeaderCut, UnknownTag, FieldLength, ValueCut}
 use Rattle.words.specs.Words.{numberAt, bytesOf}
 use Rattle.score.specs.declared.Field.{Field}
 use Rattle.score.specs.declared.FieldRead.{FieldRead}
@@ -50,13 +50,14 @@ valueAt s at = valueOf (tagAt s at) (drop (at + 3) s)
 abbrev pub afterAt : List ℕ → ℕ → ℕ
 afterAt s at = at + 3 + lenAt s at
 
--- the field at a place and the place after it; or '5 for the header, 6, 7, 5 for the value', each at the tag
+-- the field at a place and the place after it; or '5 for the header, 6, 7', and 02's 12, which 'stands where 5 for the
+-- value stood'. 6 and 7 are at the tag; 5 and 12 'name the first missing byte, which is the score's length'
 unfoldable pub fieldAt : List ℕ → ℕ → FieldRead
 fieldAt s at =
-    cond (ltb (length s) (at + 3)) (refuse FieldCut at)
+    cond (ltb (length s) (at + 3)) (refuse HeaderCut (length s))
     (cond (eqb (lenAt s at) 0) (refuse UnknownTag at)
     (cond (not (eqb (saidAt s at) (lenAt s at))) (refuse FieldLength at)
-    (cond (ltb (length s) (afterAt s at)) (refuse FieldCut at)
+    (cond (ltb (length s) (afterAt s at)) (refuse ValueCut (length s))
     (Got (valueAt s at) (afterAt s at)))))
 
 abbrev pub tagOf : What → ℕ

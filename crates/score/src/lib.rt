@@ -99,13 +99,14 @@ fn refuse(why: Refusal, place: usize) -> FieldRead
     FieldRead::Refused(Refused { why, place })
 }
 
-// What stands at a place of a score.
+// What stands at a place of a score. A cut field is refused at the first missing byte.
 pub fn field_at(s: &[u8], at: usize) -> FieldRead
     ensures { λ r. ⌜ r ≡ fieldAt (now (s .entry)) at ⌝ }
 {
+    let end = s.len();
     let left = bytes_left(s, at);
     if left < 3 {
-        return refuse(Refusal::FieldCut, at);
+        return refuse(Refusal::HeaderCut, end);
     }
     let tag = words::u8_at(s, at);
     let n = len_of(tag);
@@ -116,7 +117,7 @@ pub fn field_at(s: &[u8], at: usize) -> FieldRead
         return refuse(Refusal::FieldLength, at);
     }
     if left - 3 < n {
-        return refuse(Refusal::FieldCut, at);
+        return refuse(Refusal::ValueCut, end);
     }
     let from = at + 3;
     FieldRead::Got(value_of(tag, &s[from..]), from + n)

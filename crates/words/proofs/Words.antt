@@ -1,11 +1,11 @@
--- A number is its lower bytes and, by a power of 256, its upper ones; it is 0 where not all are there.
--- Assumes nothing.
+-- A number is its lower bytes and, by a power of 256, its upper ones; it is 0 where not all are there, and the same
+-- wherever its bytes are. Assumes nothing.
 use Prim.Native.Nat.{ℕ, zero, suc, _+_, _*_, _^_, _≤_, _<_}
 use native.Mathlib.Omega.{arith}
 use native.Mathlib.Nat.{zero-add, add-zero, suc-add, one-mul, mul-add, mul-assoc, pow-succ'}
-use mathlib.Core.Path.{_≡_}
+use mathlib.Core.Path.{_≡_, refl, subst₂}
 use mathlib.Core.List.{List}
-use lib.ListN.{length}
+use lib.ListN.{length, getD}
 use borrow.Author.Tests.{le-leb, lt-leb}
 use Rattle.words.specs.Words.{little, numberAt}
 
@@ -30,3 +30,23 @@ module _ (s : List ℕ) where
   pub number-join : (j k at : ℕ) → at + (j + k) ≤ length s → numberAt (j + k) s at ≡ numberAt j s at + 256 ^ j * numberAt k s (at + j)
   number-join j k at h =
       rw (number-there (j + k) at h, number-there j at (omega arith), number-there k (at + j) (omega arith)) (little-join j k at)
+
+module _ (s t : List ℕ) where
+  little-same : (k i j : ℕ) → ((m : ℕ) → m < k → getD s (i + m) 0 ≡ getD t (j + m) 0) → little k s i ≡ little k t j
+  unfolding little
+  little-same zero i j same = refl
+  little-same (suc k) i j same =
+      let first = there (add-zero i) (add-zero j) (same 0 (omega arith)) in
+      rw (first, little-same k (i + 1) (j + 1) (λ m h. there (omega arith) (omega arith) (same (suc m) (omega arith))))
+    where
+      there : {a a′ b b′ : ℕ} → a ≡ a′ → b ≡ b′ → getD s a 0 ≡ getD t b 0 → getD s a′ 0 ≡ getD t b′ 0
+      there = subst₂ (λ (a b : ℕ). getD s a 0 ≡ getD t b 0)
+
+  -- the same bytes, in one list or another, are the same number
+  pub number-same
+      : (k i j : ℕ)
+      → i + k ≤ length s
+      → j + k ≤ length t
+      → ((m : ℕ) → m < k → getD s (i + m) 0 ≡ getD t (j + m) 0)
+      → numberAt k s i ≡ numberAt k t j
+  number-same k i j h l same = rw (number-there s k i h, number-there t k j l) (little-same k i j same)

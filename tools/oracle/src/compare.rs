@@ -1,5 +1,6 @@
 //! Long comparisons of the port's programs with the original, by the seed.
 
+use std::collections::BTreeMap;
 use std::env;
 use std::ffi::OsStr;
 use std::fs;
@@ -107,7 +108,8 @@ pub fn scores(program: &[&OsStr], count: u64, first: u64) -> io::Result<bool> {
 
 fn scores_in(folder: &Path, program: &[&OsStr], count: u64, first: u64) -> io::Result<bool> {
     let mut chip = Mos6581::new();
-    let mut refused = 0;
+    let mut cut = 0;
+    let mut refused = BTreeMap::new();
     let mut clocks = 0;
     for batch in batches(first..first + count, SCORES_AT_ONCE) {
         let composed = batch
@@ -125,7 +127,10 @@ fn scores_in(folder: &Path, program: &[&OsStr], count: u64, first: u64) -> io::R
                 return Ok(false);
             };
             rest = after;
-            refused += u64::from(listing.starts_with("refused"));
+            cut += u64::from(compose::is_cut(seed));
+            if let Err(told) = score::check(score) {
+                *refused.entry(told.number).or_insert(0) += 1;
+            }
             clocks += score::clocks(score);
         }
         if !rest.is_empty() {
@@ -133,7 +138,10 @@ fn scores_in(folder: &Path, program: &[&OsStr], count: u64, first: u64) -> io::R
             return Ok(false);
         }
     }
-    println!("{count} scores, {refused} of them refused, {clocks} clocks: no difference");
+    println!("{count} scores, {cut} of them cut, {clocks} clocks: no difference");
+    for (number, scores) in refused {
+        println!("refused {number}: {scores}");
+    }
     Ok(true)
 }
 

@@ -1,9 +1,9 @@
 //! Scores by the seed: fields that fall where something inside the chip is under way, and scores
-//! that are broken on purpose.
+//! that are cut or broken on purpose.
 
 use crate::aim;
 use crate::random::Random;
-use crate::score::{self, Event, Field, HEADER_BYTES, LATEST_STAMP, MOST_BYTES};
+use crate::score::{self, Event, Field, HEADER_BYTES, LATEST_STAMP, MOST_BYTES, STAMP_BYTES};
 use crate::sid::sid::Mos6581;
 
 /// A broken score that is accepted all the same is not played for longer than this.
@@ -94,10 +94,20 @@ impl<'a> Composer<'a> {
     }
 }
 
+/// Whether the score with this seed is cut, as by a mail gateway: a third are, seed 1 the first.
+pub fn is_cut(seed: u64) -> bool {
+    seed % 3 == 1
+}
+
 /// The score with this seed.
 pub fn generated(seed: u64, chip: &mut Mos6581) -> Vec<u8> {
     let mut random = Random::seeded(seed);
-    if random.below(3) != 0 {
+    if is_cut(seed) {
+        let waits = random.below(8);
+        let fields = Composer::new(chip).aimed(waits, 100, &mut random);
+        return cut_fields(&fields, &mut random);
+    }
+    if random.below(4) != 0 {
         let (patience, waits) = match random.below(10) {
             0 => (45_000, random.below(20)),
             1 | 2 => (3_000, random.below(60)),
@@ -108,7 +118,7 @@ pub fn generated(seed: u64, chip: &mut Mos6581) -> Vec<u8> {
     }
     let waits = random.below(8);
     let fields = Composer::new(chip).aimed(waits, 100, &mut random);
-    let mut broken = break_fields(fields, &mut random);
+    let mut broken = break_fields(&fields, &mut random);
     if score::clocks(&broken) > MOST_CLOCKS {
         // Refused before the first clock.
         broken.push(0);
@@ -116,35 +126,59 @@ pub fn generated(seed: u64, chip: &mut Mos6581) -> Vec<u8> {
     broken
 }
 
-fn break_fields(fields: Vec<Field>, random: &mut Random) -> Vec<u8> {
+/// Cut before any byte of any field. The field may have another fault, too, and the score be as long
+/// as one may be, a byte shorter or a byte longer.
+fn cut_fields(fields: &[Field], random: &mut Random) -> Vec<u8> {
+    let chosen = random.below(fields.len() as u32) as usize;
+    let place = score::bytes_of(&fields[..chosen]).len();
+    let mut score = score::bytes_of(fields);
+    if random.below(2) == 0 {
+        spoil(&mut score[place..], fields[chosen].stamp, random);
+    }
+    score.truncate(place + random.below(fields[chosen].bytes().len() as u32) as usize);
+    if random.below(8) == 0 {
+        let length = MOST_BYTES - 1 + random.below(3) as usize;
+        score.splice(0..0, filler(length - score.len()));
+    }
+    score
+}
+
+/// Fields stamped 0, so many bytes in all.
+fn filler(bytes: usize) -> Vec<u8> {
+    let [levels, read] = [Event::Levels, Event::Read { address: 0 }];
+    let [levels, read] = [levels, read].map(|event| Field { stamp: 0, event }.bytes());
+    let reads = bytes % levels.len();
+    let rest = bytes - reads * read.len();
+    [read.repeat(reads), levels.repeat(rest / levels.len())].concat()
+}
+
+/// A fault in the field that stands first.
+fn spoil(field: &mut [u8], stamp: u32, random: &mut Random) {
+    let stamp = match random.below(6) {
+        0 | 1 => return field[0] = random.pick(&TAGS),
+        2 => return field[1] = random.below(8) as u8,
+        3 => return field[2] = random.byte(),
+        4 => random.pick(&[LATEST_STAMP, LATEST_STAMP + 1, u32::MAX]),
+        _ => stamp.saturating_sub(1 + random.below(40)),
+    };
+    field[HEADER_BYTES..][..STAMP_BYTES].copy_from_slice(&stamp.to_le_bytes());
+}
+
+fn break_fields(fields: &[Field], random: &mut Random) -> Vec<u8> {
     let chosen = random.below(fields.len() as u32) as usize;
     let place = score::bytes_of(&fields[..chosen]).len();
     let after = place + fields[chosen].bytes().len();
-    let mut score = score::bytes_of(&fields);
-    match random.below(12) {
-        // Cut off in the header, in the value, or just after a field; perhaps not the only fault.
-        0 => {
-            score.truncate(place + 1 + random.below(2) as usize);
-            score[place] = random.pick(&TAGS);
+    let stamp = fields[chosen].stamp;
+    let mut score = score::bytes_of(fields);
+    match random.below(9) {
+        0..=5 => spoil(&mut score[place..], stamp, random),
+        // An end too early, and after it what looks like a field that is cut.
+        6 => {
+            let event = Event::End;
+            score.truncate(after - random.below((after - place) as u32) as usize);
+            score.splice(place..place, Field { stamp, event }.bytes());
         }
-        1 => {
-            score.truncate(place + HEADER_BYTES + random.below(4) as usize);
-            score[place] = random.pick(&TAGS);
-        }
-        2 => score.truncate(after - 1),
-        3 => score.truncate(after),
-        4 | 5 => score[place] = random.pick(&TAGS),
-        6 => score[place + 1] = random.below(8) as u8,
-        7 => score[place + 2] = random.byte(),
-        8 => {
-            let stamp = random.pick(&[LATEST_STAMP, LATEST_STAMP + 1, u32::MAX]);
-            score[place + HEADER_BYTES..][..4].copy_from_slice(&stamp.to_le_bytes());
-        }
-        9 => {
-            let stamp = fields[chosen].stamp.saturating_sub(1 + random.below(40));
-            score[place + HEADER_BYTES..][..4].copy_from_slice(&stamp.to_le_bytes());
-        }
-        10 => {
+        7 => {
             let length = MOST_BYTES - 1 + random.below(3) as usize;
             score.splice(0..0, [0x03, 4, 0, 0, 0, 0, 0].repeat(MOST_BYTES / 7 - 40));
             score.resize(length, random.byte());

@@ -1,5 +1,6 @@
-//! Scores as document 01 has them ('Score and program', 'Numbers a caller can get back'): fields,
-//! the check before the first clock, and the listing, played on the original.
+//! Scores as document 01 has them ('Score and program', 'Numbers a caller can get back'), as
+//! document 02 amends it: fields, the check before the first clock, and the listing, played on the
+//! original.
 
 use std::fmt::Write as _;
 
@@ -26,7 +27,7 @@ pub struct Field {
 }
 
 pub struct Refused {
-    number: u8,
+    pub number: u8,
     place: usize,
 }
 
@@ -78,8 +79,13 @@ pub fn check(score: &[u8]) -> Result<Vec<Field>, Refused> {
     let mut place = 0;
     while place < score.len() {
         let refused = |number| Err(Refused { number, place });
+        // At the first missing byte.
+        let cut = |number| {
+            let place = score.len();
+            Err(Refused { number, place })
+        };
         let &[tag, length_low, length_high, ref rest @ ..] = &score[place..] else {
-            return refused(5);
+            return cut(5);
         };
         let due = match tag {
             0x01 => 6,
@@ -92,7 +98,7 @@ pub fn check(score: &[u8]) -> Result<Vec<Field>, Refused> {
             return refused(7);
         }
         let Some(value) = rest.get(..length) else {
-            return refused(5);
+            return cut(12);
         };
         let stamp = u32::from_le_bytes([value[0], value[1], value[2], value[3]]);
         if stamp > LATEST_STAMP {

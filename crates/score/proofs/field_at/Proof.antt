@@ -1,4 +1,5 @@
--- `field_at` gives the field at a place and the place after it, or refuses with 5, 6, 7, 5, in that order, at the tag.
+-- `field_at` gives the field at a place and the place after it, or refuses with 5, 6, 7, 12, in that order: 6 and 7 at
+-- the tag, 5 and 12 at the score's length.
 use borrow.Author.Needs.{needs}
 use native.Mathlib.Omega.{arith}
 use Prim.Native.Nat.{_+_, _-_}
@@ -79,8 +80,8 @@ part-value-of-end c = search needs
 value-of-requires : tie.Need-value-of-requires
 value-of-requires c κs = search needs
 
-add-t11 : tie.Need-add-t11
-add-t11 c = search needs
+add-t12 : tie.Need-add-t12
+add-t12 c = search needs
 
 returns-5 : tie.Need-returns-5
 returns-5 c =
@@ -114,5 +115,5 @@ field-at-spec =
     part-value-of-start
     part-value-of-end
     value-of-requires
-    add-t11
+    add-t12
     returns-5)

@@ -46,6 +46,7 @@ fn all() -> Vec<Vec<u8>> {
     scores.extend(accepted());
     scores.extend(aimed());
     scores.extend(refused_at_each_place());
+    scores.extend(cut_before_each_byte());
     scores.extend(refused_for_the_first_reason());
     scores.extend(at_the_latest_stamp());
     scores.extend(at_the_greatest_length());
@@ -196,7 +197,7 @@ fn aimed() -> Vec<Vec<u8>> {
     scores
 }
 
-/// Each refusal from 5 to 11 at each field of a score.
+/// Each refusal from 5 to 12 at each field of a score.
 fn refused_at_each_place() -> Vec<Vec<u8>> {
     let fields = [
         write(3, 0x01, 0x40),
@@ -250,6 +251,39 @@ fn refused_at_each_place() -> Vec<Vec<u8>> {
     scores
 }
 
+/// Each kind of field, cut before each of its bytes: alone, after another field, with a second
+/// reason to be refused, and after an end, where it is that which is told.
+fn cut_before_each_byte() -> Vec<Vec<u8>> {
+    let nothing = Vec::new();
+    let before = levels(7).bytes();
+    let mut scores = Vec::new();
+    for field in [write(7, 0x04, 0x11), read(7, 0x1b), levels(7), end(7)] {
+        let whole = field.bytes();
+        let changed = |offset: usize, bytes: &[u8]| {
+            let mut field = whole.clone();
+            field[offset..][..bytes.len()].copy_from_slice(bytes);
+            field
+        };
+        let length = whole[1];
+        let cases = [
+            (&nothing, whole.clone()),
+            (&before, whole.clone()),
+            (&before, changed(0, &[0x55])),
+            (&before, changed(1, &[length + 1])),
+            (&before, changed(1, &[length - 1])),
+            (&before, changed(HEADER_BYTES, &u32::MAX.to_le_bytes())),
+            (&before, changed(HEADER_BYTES, &6u32.to_le_bytes())),
+            (&end(7).bytes(), whole.clone()),
+        ];
+        for (before, field) in cases {
+            for cut in 1..field.len() {
+                scores.push([before, &field[..cut]].concat());
+            }
+        }
+    }
+    scores
+}
+
 /// Two reasons at one place: the first in document 01's order is told.
 fn refused_for_the_first_reason() -> Vec<Vec<u8>> {
     let good = levels(7).bytes();
@@ -291,7 +325,8 @@ fn at_the_latest_stamp() -> Vec<Vec<u8>> {
     scores
 }
 
-/// The greatest length that is allowed, accepted and without an end; and one byte more.
+/// The greatest length that is allowed, accepted, without an end and with an end that is cut; and
+/// one byte more.
 fn at_the_greatest_length() -> Vec<Vec<u8>> {
     let accepted = of_length(MOST_BYTES);
     let mut without_end = of_length(MOST_BYTES - 1);
@@ -299,7 +334,16 @@ fn at_the_greatest_length() -> Vec<Vec<u8>> {
     without_end.extend(read(60_000, 0x00).bytes());
     assert_eq!(without_end.len(), MOST_BYTES);
     let too_long = of_length(MOST_BYTES + 1);
-    vec![accepted, without_end, too_long, vec![0x00; MOST_BYTES + 1]]
+    let value_cut = too_long[..MOST_BYTES].to_vec();
+    let header_cut = of_length(MOST_BYTES + 5)[..MOST_BYTES].to_vec();
+    vec![
+        accepted,
+        without_end,
+        too_long,
+        vec![0x00; MOST_BYTES + 1],
+        value_cut,
+        header_cut,
+    ]
 }
 
 /// Writes one after another, what they led to, and an end: so many bytes in all.
