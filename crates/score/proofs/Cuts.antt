@@ -1,5 +1,5 @@
--- A score that was cut is refused at the cut: with 11 between two fields, with 5 in a header, with 12 in a value. Assumes
--- nothing.
+-- An accepted score that is cut is refused at the cut: with 11 between two fields, with 5 in a header, with 12 in a
+-- value. Assumes nothing.
 use Prim.Native.Nat.{ℕ, _+_, _-_, _≤_, _<_}
 use native.Mathlib.Omega.{arith}
 use mathlib.Core.List.{List}
@@ -52,7 +52,7 @@ module _ (s : List ℕ) (n : ℕ) (h : n ≤ length s) where
       rw (← tag-left w l, ← stamp-left at (omega (arith, whole-four w)))
       (more (prefix-left p (omega arith)) (whole-left w l) (timely-left w l t) (λ z. e (sym (tag-left w l) ∙ z)))
 
-  -- in a field that was whole, after fields that are past all checks
+  -- a cut before or in a whole field, which stands after fields that are past all checks
   pub given-missing : {at : ℕ} {o : Order} → Prefix s at o → Whole s at → at ≤ n → n < afterAt s at → Given left (missing (n - at)) n
   unfolding missing
   given-missing {at} {o} p w f c =

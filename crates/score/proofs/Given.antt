@@ -85,6 +85,18 @@ module _ {s : List ℕ} where
   given-refused (row-10 p w t e l) = refused-at p (λ n. surplus n s _ _ (whole-read w) (whole-admitted w t) (whole-end w ∙ eq-eqb _ _ e) l)
   given-refused (row-11 p) = refused-at p (λ n. over n s _ _ (omega arith))
 
+  -- the largest place: the length of the longest score
+  pub place-most : {number place : ℕ} → Given s number place → place ≤ 65536
+  place-most (row-4 h) = omega arith
+  place-most (row-5 p l h) = prefix-short p
+  place-most (row-6 p h z) = omega (arith, prefix-short p)
+  place-most (row-7 p h k e) = omega (arith, prefix-short p)
+  place-most (row-12 p h k e c) = prefix-short p
+  place-most (row-8 p w h) = omega (arith, prefix-short p, prefix-le p)
+  place-most (row-9 p w h l) = omega (arith, prefix-short p, prefix-le p)
+  place-most (row-10 p w t e l) = omega (arith, prefix-short p)
+  place-most (row-11 p) = prefix-short p
+
 -- ---- where the check gives a number, its row is given; where it accepts, there is a chain
 
 module _ (s : List ℕ) where

@@ -1,5 +1,5 @@
--- Document 01, 'Numbers a caller can get back', rows 4 to 11, and document 02's 12, in plain numbers: what each is given
--- for, at which place. `given-exactly` holds the check to them.
+-- Document 01, 'Numbers a caller can get back', rows 4 to 11, and document 02's 12, in plain numbers: what each is
+-- given for, at which place. `given-exactly` holds the check to them.
 use Prim.Native.Nat.{ℕ, _+_, _-_, _≤_, _<_}
 use mathlib.Core.Bool.{cond}
 use mathlib.Core.List.{List}
@@ -91,7 +91,7 @@ Judged s (refuses t) = Given s (t .number) (t .place)
 unfoldable pub missing : ℕ → ℕ
 missing there = cond (eqb there 0) 11 (cond (ltb there 3) 5 12)
 
--- what the first n bytes of a score are answered: they end before or in the field at `tag`, and are refused at their end
+-- what the first n bytes of a score are answered: they end before or in the field at `tag`, and are refused at the cut
 pub record Cut (s : List ℕ) (n : ℕ) : Type 0 where
   pub tag : ℕ
   pub order : Order
