@@ -2,8 +2,9 @@
 -- value. Assumes nothing.
 use Prim.Native.Nat.{ℕ, _+_, _-_, _≤_, _<_}
 use native.Mathlib.Omega.{arith}
+use mathlib.Core.Bool.{Bool, true, false}
 use mathlib.Core.List.{List}
-use mathlib.Core.Path.{_≡_, subst, sym, _∙_}
+use mathlib.Core.Path.{_≡_, refl, subst, sym, _∙_}
 use lib.Dec.{ltb, eqb}
 use lib.ListN.{length, drop, take, length-drop}
 use lib.Seq.{length-take-le, getD-take, getD-drop}
@@ -73,10 +74,11 @@ module _ {s : List ℕ} {n : ℕ} (h : n < length s) where
 
   chain-cut : {at : ℕ} {o : Order} {fs : List Field} → Chain s at o fs → Prefix s at o → at ≤ n → Cut s n
   chain-cut {at} (ends e a i) p l = let st = stands s at e in cut-at p (st .whole) l (omega (arith, st .ends))
-  chain-cut {at} (goes e a i r) p l =
-      let st = stands s at e in
-      by-test (λ (k : ℕ). Cut s n) (ltb n (afterAt s at)) 0 0 (λ c. cut-at p (st .whole) l (ltb-true _ _ c))
-      (λ c. chain-cut r (prefix-more p e a i) (omega (arith, st .ends, ltb-false n (afterAt s at) c)))
+  chain-cut {at} (goes {next = next} e a i r) p l = go (ltb n (afterAt s at)) refl (chain-cut r (prefix-more p e a i))
+    where
+      go : (b : Bool) → ltb n (afterAt s at) ≡ b → (next ≤ n → Cut s n) → Cut s n
+      go true c rest = cut-at p (stands s at e .whole) l (ltb-true _ _ c)
+      go false c rest = rest (omega (arith, stands s at e .ends, ltb-false n (afterAt s at) c))
 
 -- an accepted score, cut anywhere
 pub cut-refused : {s : List ℕ} {fs : List Field} → scoreOf s ≡ good fs → {n : ℕ} → n < length s → Cut s n
