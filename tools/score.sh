@@ -3,10 +3,13 @@
 #
 #   CLOCK write ADDRESS VALUE       CLOCK levels
 #   CLOCK read ADDRESS              CLOCK end
-#   CLOCK note VOICE NAME CONTROL   three writes: a note's frequency, as A4 or C#3, and the voice's control
+#   CLOCK note VOICE NAME CONTROL   three writes, one to a clock: the low byte of a note's frequency, as A4 or C#3, on
+#                                   CLOCK, the high byte on the next, and the voice's control with its gate on the third
 #
-# A field a line, CLOCK decimal, ADDRESS, VALUE and CONTROL in hex; `#` after a space or at a line's start begins a comment. Fields are written
-# as they stand: that a score is accepted is for `replay` to say. Needs sh, awk, printf.
+# A field a line, CLOCK decimal, ADDRESS, VALUE and CONTROL in hex; `#` after a space or at a line's start begins a
+# comment. A clock has one write or read: after a note the next one stands on CLOCK + 3 or later, and levels or an end
+# on CLOCK + 2 or later. Fields are written as they stand: that a score is accepted is for `replay` to say. Needs sh,
+# awk, printf.
 set -eu
 export LC_ALL=C
 [ $# -eq 1 ] || { echo "usage: sh tools/score.sh TEXT > SCORE" >&2; exit 2; }
@@ -16,6 +19,7 @@ fields=$(awk '
   function fail(why) { print FILENAME ":" FNR ": " why > "/dev/stderr"; failed = 1; exit 1 }
   function byte(n) { return sprintf("\\%03o", n % 256) }
   function field(tag, length_, stamp) {
+    if (stamp > 4294967295) fail("beyond a clock of four bytes: " $1)
     return byte(tag) byte(length_) byte(0) byte(stamp) byte(int(stamp / 256)) byte(int(stamp / 65536)) byte(int(stamp / 16777216))
   }
   function hex(text,    i, d, n) {
@@ -43,7 +47,7 @@ fields=$(awk '
   }
   { sub(/(^|[ \t])#.*/, "") }
   NF == 0 { next }
-  $1 !~ /^[0-9]+$/ || $1 > 4294967295 { fail("not a clock of four bytes: " $1) }
+  $1 !~ /^[0-9]+$/ { fail("not a clock: " $1) }
   $2 == "write" { words(4); write($1, hex($3), hex($4)); next }
   $2 == "read" { words(3); print field(2, 5, $1) byte(hex($3)); next }
   $2 == "levels" { words(2); print field(3, 4, $1); next }
@@ -53,8 +57,8 @@ fields=$(awk '
     if ($3 !~ /^[0-2]$/) fail("not a voice: " $3)
     f = frequency($4)
     write($1, 7 * $3, f % 256)
-    write($1, 7 * $3 + 1, int(f / 256))
-    write($1, 7 * $3 + 4, hex($5))
+    write($1 + 1, 7 * $3 + 1, int(f / 256))
+    write($1 + 2, 7 * $3 + 4, hex($5))
     next
   }
   { fail("not a field: " $2) }

@@ -9,16 +9,14 @@ use lib.ListN.{length, length-append}
 use Rattle.listing.specs.Text.{endLine}
 use Rattle.panel.specs.declared.Panel.{Panel}
 use Rattle.panel.specs.Panel.{fresh, ranTo, ranToBy, readOf}
-use Rattle.score.specs.declared.Admitted.the-variants.{Next}
 use Rattle.score.specs.declared.Field.{Field}
 use Rattle.score.specs.declared.Order.{Order}
 use Rattle.score.specs.declared.What.{What}
 use Rattle.score.specs.declared.What.the-variants.{Write, Read, Levels, End}
 use Rattle.score.specs.Fields.{isEnd}
 use Rattle.score.specs.Scores.{good, scoreOf, clocksOf as Scores·clocksOf, Chain, ends, goes}
-use Rattle.score.specs.Stamps.{admit}
 use Rattle.score.proofs.Chains.{score-chain}
-use Rattle.score.proofs.Stamps.{admits}
+use Rattle.score.proofs.Stamps.{Admits, admits}
 use Rattle.oscillator.specs.Ways.{afresh, stepwise}
 use Rattle.calls.proofs.Leaks.{clocks-as-01}
 use Rattle.sid.specs.Sid.{fresh as Sid·fresh, Call, calledBy, afterBy, after, clocksOf}
@@ -75,17 +73,17 @@ module _ (stamp : ℕ) where
         count-ticks (f .stamp - p .clock) (callThen (f .what) (callsTo (q .clock) fs stamp)),
       )
 
-ran-clock : {o : Order} (f : Field) {o′ : Order} → admit o f ≡ Next o′ → (p : Panel) → p .clock ≡ o .last → atStamp f p .clock ≡ f .stamp
+ran-clock : {o : Order} {f : Field} {o′ : Order} → Admits o f o′ → (p : Panel) → p .clock ≡ o .last → atStamp f p .clock ≡ f .stamp
 unfolding ranToBy
-ran-clock f a p k = let l = admits a .not-below in omega arith
+ran-clock a p k = omega (arith, a .not-below)
 
 -- a field as its stamp finds the panel
 record Finds (f : Field) (p : Panel) : Type 0 where
   clock : atStamp f p .clock ≡ f .stamp
   not-over : f .stamp ≤ 100000000
 
-found : {o : Order} (f : Field) {o′ : Order} → admit o f ≡ Next o′ → (p : Panel) → p .clock ≡ o .last → Finds f p
-found f a p k = record { clock = ran-clock f a p k; not-over = admits a .not-over }
+found : {o : Order} {f : Field} {o′ : Order} → Admits o f o′ → (p : Panel) → p .clock ≡ o .last → Finds f p
+found a p k = record { clock = ran-clock a p k; not-over = a .not-over }
 
 -- stamps never fall, so that each field finds the clocks of the one before
 on-stamp
@@ -99,14 +97,14 @@ on-stamp
 unfolding playedBy
 on-stamp (ends {f = g} e a i) [] f ys q p k =
     let h : g ≡ f = cc in
-    subst (λ (x : Field). Finds x p) h (found g a p k)
+    subst (λ (x : Field). Finds x p) h (found (admits a) p k)
 on-stamp (ends e a i) (x ∷ xs) f ys q p k = absurd (omega (arith, ap length q, length-append xs (f ∷ ys)))
 on-stamp (goes {f = g} e a i r) [] f ys q p k =
     let h : g ≡ f = cc in
-    subst (λ (x : Field). Finds x p) h (found g a p k)
+    subst (λ (x : Field). Finds x p) h (found (admits a) p k)
 on-stamp (goes {f = g} e a i r) (x ∷ xs) f ys q p k =
     let h : g ≡ x = cc in
-    let there = subst (λ (y : Field). Finds y p) h (found g a p k) .clock in
+    let there = subst (λ (y : Field). Finds y p) h (found (admits a) p k) .clock in
     on-stamp r xs f ys (cc) (doneBy (x .what) (atStamp x p))
     (clock-done (x .what) (atStamp x p) ∙ (there ∙ (ap (λ (y : Field). y .stamp) (sym h) ∙ sym (admits a .is-last))))
 
@@ -149,12 +147,12 @@ closes
 unfolding playBy playedBy
 closes (ends {f = f} e a i) p k =
     let q = atStamp f p in
-    let c = ran-clock f a p k in
+    let c = ran-clock (admits a) p k in
     rw i (record { before = []; text-is = append-nil (lineOf (f .stamp) (f .what) q) ∙ (end-line (f .stamp) (f .what) q i ∙ ap endLine c); clock = clock-done (f .what) q ∙ c })
 closes (goes {f = f} {fs = fs} e a i r) p k =
     let q = atStamp f p in
     let line = lineOf (f .stamp) (f .what) q in
-    let c = closes r (doneBy (f .what) q) (clock-done (f .what) q ∙ (ran-clock f a p k ∙ sym (admits a .is-last))) in
+    let c = closes r (doneBy (f .what) q) (clock-done (f .what) q ∙ (ran-clock (admits a) p k ∙ sym (admits a .is-last))) in
     rw i
     (record {
       before = line ++ c .before;

@@ -45,7 +45,9 @@ module _ (s : List ℕ) (n : ℕ) (h : n ≤ length s) where
     whole-left = record { known = rw tag-left (w .known); says = rw (tag-left, number-left 2 (at + 1) (omega arith)) (w .says); fits = rw (tag-left, long) l }
 
     timely-left : {o : Order} → Timely s at o → Timely left at o
-    timely-left t = let e = stamp-left at (omega (arith, whole-four w)) in record { not-over = rw e (t .not-over); not-below = rw e (t .not-below) }
+    timely-left t =
+        let e = stamp-left at (omega (arith, whole-four w)) in
+        record { not-over = rw e (t .not-over); not-below = rw e (t .not-below); not-used = rw (tag-left, e) (t .not-used) }
 
   prefix-left : {at : ℕ} {o : Order} → Prefix s at o → at ≤ n → Prefix left at o
   prefix-left (none short) l = none (omega (arith, long))

@@ -1,4 +1,4 @@
--- Document 01's worked score, and the numbers 5 to 12, each with a small score that it is given for. Assumes nothing.
+-- Document 01's worked score, and the numbers 5 to 14, each with a small score that it is given for. Assumes nothing.
 use mathlib.Core.List.{[], _∷_, _++_}
 use mathlib.Core.Path.{_≡_, refl}
 use Rattle.refusals.specs.Refusals.{numbered}
@@ -30,7 +30,8 @@ pub numbers
     × (verdict (checked (0x7f ∷ 0x04 ∷ 0x00 ∷ 0x00 ∷ 0xe1 ∷ 0xf5 ∷ 0x05 ∷ [])) ≡ accepts 100000000)
     × (verdict (checked (0x7f ∷ 0x04 ∷ 0x00 ∷ 0x01 ∷ 0xe1 ∷ 0xf5 ∷ 0x05 ∷ [])) ≡ refuses (numbered 8 0))
     × (verdict (checked (0x03 ∷ 0x04 ∷ 0x00 ∷ 0x01 ∷ 0x00 ∷ 0x00 ∷ 0x00 ∷ 0x7f ∷ 0x04 ∷ 0x00 ∷ 0x00 ∷ 0x00 ∷ 0x00 ∷ 0x00 ∷ [])) ≡ refuses (numbered 9 7))
+    × (verdict (checked (0x02 ∷ 0x05 ∷ 0x00 ∷ 0x00 ∷ 0x00 ∷ 0x00 ∷ 0x00 ∷ 0x1b ∷ 0x02 ∷ 0x05 ∷ 0x00 ∷ 0x00 ∷ 0x00 ∷ 0x00 ∷ 0x00 ∷ 0x1b ∷ [])) ≡ refuses (numbered 14 8))
     × (verdict (checked (0x7f ∷ 0x04 ∷ 0x00 ∷ 0x00 ∷ 0x00 ∷ 0x00 ∷ 0x00 ∷ 0x7f ∷ [])) ≡ refuses (numbered 10 7))
     × (verdict (checked (0x03 ∷ 0x04 ∷ 0x00 ∷ 0x00 ∷ 0x00 ∷ 0x00 ∷ 0x00 ∷ [])) ≡ refuses (numbered 11 7))
 unfolding checked scoreOf walk fieldAt lenOf whatOf admit numberAt little
-numbers = (refl, refl, refl, refl, refl, refl, refl, refl, refl, refl, refl, refl)
+numbers = (refl, refl, refl, refl, refl, refl, refl, refl, refl, refl, refl, refl, refl)

@@ -2,7 +2,7 @@
 -- its place, and what a place says of the field that is read there. Assumes nothing.
 use Prim.Native.Nat.{ℕ, _+_, _≤_, _<_}
 use native.Mathlib.Omega.{arith}
-use mathlib.Core.Bool.{true, not}
+use mathlib.Core.Bool.{true, not, _||_}
 use mathlib.Core.List.{List}
 use mathlib.Core.Path.{_≡_, refl, subst, sym}
 use lib.Dec.{ltb, eqb}
@@ -14,8 +14,8 @@ use Rattle.refusals.specs.declared.Refused.{Refused}
 use Rattle.score.specs.declared.Field.{Field}
 use Rattle.score.specs.declared.FieldRead.{FieldRead}
 use Rattle.score.specs.declared.FieldRead.the-variants.{Got, Refused as Unread}
-use Rattle.score.specs.Fields.{lenOf, whatOf, refuse, tagAt, saidAt, lenAt, valueAt, afterAt, fieldAt, isEnd}
-use Rattle.score.specs.Given.{Whole}
+use Rattle.score.specs.Fields.{lenOf, whatOf, refuse, tagAt, saidAt, lenAt, valueAt, afterAt, fieldAt, isEnd, isAccess}
+use Rattle.score.specs.Given.{accessAt, Whole}
 
 module _ (s : List ℕ) (at : ℕ) where
   pub header-cut : length s < at + 3 → fieldAt s at ≡ refuse HeaderCut (length s)
@@ -95,6 +95,11 @@ module _ {s : List ℕ} {at : ℕ} (w : Whole s at) where
   pub whole-end : isEnd (valueAt s at .what) ≡ eqb (tagAt s at) 0x7f
   unfolding whatOf
   whole-end = tags (λ (tag : ℕ). isEnd (whatOf tag (drop (at + 3) s)) ≡ eqb tag 0x7f) refl refl refl refl (tagAt s at) (w .known)
+
+  pub whole-access : isAccess (valueAt s at .what) ≡ accessAt s at
+  unfolding whatOf
+  whole-access =
+      tags (λ (tag : ℕ). isAccess (whatOf tag (drop (at + 3) s)) ≡ (eqb tag 0x01 || eqb tag 0x02)) refl refl refl refl (tagAt s at) (w .known)
 
   pub whole-four : 4 ≤ lenAt s at
   unfolding lenOf

@@ -1,13 +1,13 @@
 -- The check of a score gives a number exactly when document 01's table says, at the table's place. Assumes nothing.
 use Prim.Native.Nat.{ℕ, zero, suc, _+_, _≤_, _<_}
 use native.Mathlib.Omega.{arith}
-use mathlib.Core.Bool.{false}
+use mathlib.Core.Bool.{Bool, false, cond}
 use mathlib.Core.List.{List, _∷_}
 use mathlib.Core.Logic.{_↔_}
 use mathlib.Core.Path.{_≡_, refl, ap, subst, subst₂, sym, _∙_}
 use lib.Dec.{ltb, leb}
 use lib.ListN.{length}
-use borrow.Author.Tests.{ltb-true, ltb-false, leb-true, leb-false, eqb-true, eqb-false, eq-eqb, ne-eqb}
+use borrow.Author.Tests.{lt-ltb, ltb-true, ltb-false, leb-true, leb-false, eqb-true, eqb-false, eq-eqb, ne-eqb}
 use Rattle.laws.proofs.Cond.{by-test}
 use Rattle.refusals.proofs.Numbers.{told-tells}
 use Rattle.refusals.specs.Refusals.{numbered, told}
@@ -21,12 +21,12 @@ use Rattle.score.specs.declared.FieldRead.{FieldRead}
 use Rattle.score.specs.declared.FieldRead.the-variants.{Got}
 use Rattle.score.specs.declared.Order.{Order}
 use Rattle.score.specs.Fields.{valueAt, afterAt, fieldAt, isEnd}
-use Rattle.score.specs.Given.{stampAt, Whole, Timely, Prefix, none, more, Judged}
-use Rattle.score.specs.Given.{Given, row-4, row-5, row-6, row-7, row-12, row-8, row-9, row-10, row-11}
+use Rattle.score.specs.Given.{stampAt, orderAt, Whole, Timely, Prefix, none, more, Judged}
+use Rattle.score.specs.Given.{Given, row-4, row-5, row-6, row-7, row-12, row-8, row-9, row-14, row-10, row-11}
 use Rattle.score.specs.Scores.{Parsed, good, bad, push, afterAdmit, afterRead, walk, scoreOf, answer, checked, refuses, verdict, Chain, ends, goes}
-use Rattle.score.specs.Stamps.{unstamped, admit}
-use Rattle.score.proofs.Fields.{header-cut, tag-unknown, length-wrong, value-cut, by-field, stands, whole-read, whole-end}
-use Rattle.score.proofs.Stamps.{too-late, falls, admitted, by-stamp, admits}
+use Rattle.score.specs.Stamps.{unstamped, following, admit}
+use Rattle.score.proofs.Fields.{header-cut, tag-unknown, length-wrong, value-cut, by-field, stands, whole-read, whole-end, whole-access}
+use Rattle.score.proofs.Stamps.{too-late, falls, is-used, admitted, by-used, by-stamp, admits}
 use Rattle.score.proofs.Walk.{over, unread, unadmitted, surplus, Kept, kept-first, kept-more, kept-end, too-long}
 
 -- number and place, or the clocks, tell the answer
@@ -45,8 +45,15 @@ module _ {s : List ℕ} where
   prefix-le (none h) = omega arith
   prefix-le (more p w t e) = w .fits
 
-  whole-admitted : {at : ℕ} {o : Order} → Whole s at → Timely s at o → admit o (valueAt s at) ≡ Next (record { last = stampAt s at })
-  whole-admitted {at} {o} w t = admitted o (valueAt s at) (t .not-over) (t .not-below)
+  -- the order by the tag is the order by what the field asks for
+  whole-following : {at : ℕ} (o : Order) → Whole s at → following o (valueAt s at) ≡ orderAt s at o
+  whole-following {at} o w = ap (λ (b : Bool). record { last = stampAt s at; free = cond b (stampAt s at + 1) (o .free) }) (whole-access w)
+
+  whole-admitted : {at : ℕ} {o : Order} → Whole s at → Timely s at o → admit o (valueAt s at) ≡ Next (orderAt s at o)
+  whole-admitted {at} {o} w t =
+      admitted o (valueAt s at) (t .not-over) (t .not-below)
+      (by-used o (valueAt s at) (λ (b : Bool). b ≡ false) (λ a u. absurd (omega (arith, t .not-used (sym (whole-access w) ∙ a)))) (λ _. refl))
+      (whole-access w)
 
   -- a field that was read and admitted, and is no end, is one more of those before
   pub prefix-more
@@ -60,8 +67,9 @@ module _ {s : List ℕ} where
       let st = stands s at e in
       let b : admit o (valueAt s at) ≡ Next o′ = subst (λ (g : Field). admit o g ≡ Next o′) (st .field) a in
       let j : isEnd (valueAt s at .what) ≡ false = subst (λ (g : Field). isEnd (g .what) ≡ false) (st .field) i in
-      let t : Timely s at o = record { not-over = admits b .not-over; not-below = admits b .not-below } in
-      let q : record { last = stampAt s at } ≡ o′ = cc (whole-admitted (st .whole) t) in
+      let ok = admits b in
+      let t : Timely s at o = record { not-over = ok .not-over; not-below = ok .not-below; not-used = λ x. ok .not-used (whole-access (st .whole) ∙ x) } in
+      let q : orderAt s at o ≡ o′ = cc (whole-admitted (st .whole) t) in
       subst₂ (λ (n : ℕ) (x : Order). Prefix s n x) (sym (st .ends)) q (more p (st .whole) t (eqb-false _ _ (sym (whole-end (st .whole)) ∙ j)))
 
 -- ---- where a row is given, the check gives its number
@@ -82,6 +90,7 @@ module _ {s : List ℕ} where
   given-refused (row-12 p h k e c) = refused-at p (λ n. unread n s _ _ (omega arith) (value-cut s _ h refl k e c))
   given-refused (row-8 p w h) = refused-at p (λ n. unadmitted n s _ _ (whole-read w) (too-late _ _ h))
   given-refused (row-9 p w h l) = refused-at p (λ n. unadmitted n s _ _ (whole-read w) (falls _ _ h l))
+  given-refused (row-14 p w h l a u) = refused-at p (λ n. unadmitted n s _ _ (whole-read w) (is-used _ _ h l (rw (whole-access w ∙ a) (lt-ltb _ _ u))))
   given-refused (row-10 p w t e l) = refused-at p (λ n. surplus n s _ _ (whole-read w) (whole-admitted w t) (whole-end w ∙ eq-eqb _ _ e) l)
   given-refused (row-11 p) = refused-at p (λ n. over n s _ _ (omega arith))
 
@@ -94,6 +103,7 @@ module _ {s : List ℕ} where
   place-most (row-12 p h k e c) = prefix-short p
   place-most (row-8 p w h) = omega (arith, prefix-short p, prefix-le p)
   place-most (row-9 p w h l) = omega (arith, prefix-short p, prefix-le p)
+  place-most (row-14 p w h l a u) = omega (arith, prefix-short p, prefix-le p)
   place-most (row-10 p w t e l) = omega (arith, prefix-short p)
   place-most (row-11 p) = prefix-short p
 
@@ -119,7 +129,7 @@ module _ (s : List ℕ) where
       abbrev after : Admitted → Type 0
       after a = Means at o (afterAdmit (walk n s) s at (valueAt s at) (afterAt s at) a)
 
-      means-timely : Whole s at → Timely s at o → after (Next (record { last = stampAt s at }))
+      means-timely : Whole s at → Timely s at o → after (Next (orderAt s at o))
       means-timely w t =
           let e = whole-read w in
           let a = whole-admitted w t in
@@ -128,14 +138,15 @@ module _ (s : List ℕ) where
           (λ l. row-10 p w t (eqb-true _ _ (sym (whole-end w) ∙ i)) (ltb-true _ _ l))
           (λ l. let q : afterAt s at ≡ length s = omega (arith, w .fits, ltb-false (afterAt s at) (length s) l) in
           (ends (e ∙ ap (Got (valueAt s at)) q) a i, prefix-short p)))
-          (λ i. means-push (valueAt s at) (walk n s (afterAt s at) (record { last = stampAt s at })) (λ fs c. goes e a i c)
-          (rest (afterAt s at) (record { last = stampAt s at }) (omega arith) (more p w t (eqb-false _ _ (sym (whole-end w) ∙ i)))))
+          (λ i. means-push (valueAt s at) (walk n s (afterAt s at) (orderAt s at o)) (λ fs c. goes e a i c)
+          (rest (afterAt s at) (orderAt s at o) (omega arith) (more p w t (eqb-false _ _ (sym (whole-end w) ∙ i)))))
 
       means-read : at < length s → Means at o (afterRead (walk n s) s at o (fieldAt s at))
       means-read l =
           by-field s at (λ (r : FieldRead). Means at o (afterRead (walk n s) s at o r))
           (row-5 p l) (row-6 p) (row-7 p) (row-12 p)
-          (λ w. by-stamp o (valueAt s at) after (row-8 p w) (row-9 p w) (λ h l. means-timely w (record { not-over = h; not-below = l })))
+          (λ w. by-stamp o (valueAt s at) after (row-8 p w) (row-9 p w) (λ h l a. row-14 p w h l (sym (whole-access w) ∙ a))
+          (λ h l u. rw (whole-following o w) (means-timely w (record { not-over = h; not-below = l; not-used = λ a. u (whole-access w ∙ a) }))))
 
   walk-means : (n at : ℕ) (o : Order) → Prefix s at o → length s < at + n → Means at o (walk n s at o)
   unfolding walk

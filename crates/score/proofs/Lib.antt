@@ -1,3 +1,4 @@
+pub mod Accesses
 pub mod Chains
 pub mod Cuts
 pub mod Examples

@@ -105,7 +105,7 @@ unfolding allWritten
 chain-bytes {s} {at} small (ends e a i) = field-bytes s small at e ∙ rw drop-length
 chain-bytes {s} {at} small (goes e a i r) = field-bytes s small at e ∙ rw (chain-bytes small r)
 
-chain-order : {s : List ℕ} {at : ℕ} {o : Order} {fs : List Field} → Chain s at o fs → InOrder o fs
+pub chain-order : {s : List ℕ} {at : ℕ} {o : Order} {fs : List Field} → Chain s at o fs → InOrder o fs
 chain-order (ends e a i) = closed a i
 chain-order (goes e a i r) = opened a i (chain-order r)
 

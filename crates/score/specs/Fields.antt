@@ -72,6 +72,13 @@ isEnd (Read a) = false
 isEnd Levels = false
 isEnd End = true
 
+-- document 02: 'a write or read'. No other field is an access
+abbrev pub isAccess : What → Bool
+isAccess (Write a v) = true
+isAccess (Read a) = true
+isAccess Levels = false
+isAccess End = false
+
 -- what follows the stamp
 abbrev pub restOf : What → List ℕ
 restOf (Write a v) = a ∷ v ∷ []

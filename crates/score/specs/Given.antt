@@ -1,7 +1,7 @@
--- Document 01, 'Numbers a caller can get back', rows 4 to 11, and document 02's 12, in plain numbers: what each is
--- given for, at which place. `given-exactly` holds the check to them.
+-- Document 01, 'Numbers a caller can get back', rows 4 to 11, and document 02's 12 and 14, in plain numbers: what each
+-- is given for, at which place. `given-exactly` holds the check to them.
 use Prim.Native.Nat.{ℕ, _+_, _-_, _≤_, _<_}
-use mathlib.Core.Bool.{cond}
+use mathlib.Core.Bool.{Bool, true, cond, _||_}
 use mathlib.Core.List.{List}
 use mathlib.Core.Path.{_≡_}
 use lib.Dec.{ltb, eqb}
@@ -18,16 +18,25 @@ use Rattle.score.specs.Stamps.{unstamped}
 abbrev pub stampAt : List ℕ → ℕ → ℕ
 stampAt s at = numberAt 4 (drop (at + 3) s) 0
 
+-- 'a write or read', by its tag
+abbrev pub accessAt : List ℕ → ℕ → Bool
+accessAt s at = eqb (tagAt s at) 0x01 || eqb (tagAt s at) 0x02
+
+-- the order after the field at a place: its stamp, and the first stamp that is above every access so far
+abbrev pub orderAt : List ℕ → ℕ → Order → Order
+orderAt s at o = record { last = stampAt s at; free = cond (accessAt s at) (stampAt s at + 1) (o .free) }
+
 -- the field at a place is past '5 for the header, 6, 7' and 12 for the value
 pub record Whole (s : List ℕ) (at : ℕ) : Type 0 where
   pub known : lenAt s at ≡ 0 → ⊥
   pub says : saidAt s at ≡ lenAt s at
   pub fits : afterAt s at ≤ length s
 
--- its stamp is past '8, 9', o holding the stamp of the field before
+-- its stamp is past '8, 9' and 14, o being the order after the field before
 pub record Timely (s : List ℕ) (at : ℕ) (o : Order) : Type 0 where
   pub not-over : stampAt s at ≤ 100000000
   pub not-below : o .last ≤ stampAt s at
+  pub not-used : accessAt s at ≡ true → o .free ≤ stampAt s at
 
 -- '4 is first, then field by field': every field before `at` is past all this, none is an end, and o is the order after
 pub data Prefix (s : List ℕ) : ℕ → Order → Type 0 where
@@ -38,7 +47,7 @@ pub data Prefix (s : List ℕ) : ℕ → Order → Type 0 where
       → Whole s at
       → Timely s at o
       → (tagAt s at ≡ 0x7f → ⊥)
-      → Prefix s (afterAt s at) (record { last = stampAt s at })
+      → Prefix s (afterAt s at) (orderAt s at o)
 
 -- the table in the order of refusals, `Given s number place`; each row with what 01, or 02, says of it, and its place
 pub data Given (s : List ℕ) : ℕ → ℕ → Type 0 where
@@ -63,6 +72,16 @@ pub data Given (s : List ℕ) : ℕ → ℕ → Type 0 where
   row-8 : {at : ℕ} {o : Order} → Prefix s at o → Whole s at → 100000000 < stampAt s at → Given s 8 at
   -- 'stamp below the field before', tag
   row-9 : {at : ℕ} {o : Order} → Prefix s at o → Whole s at → stampAt s at ≤ 100000000 → stampAt s at < o .last → Given s 9 at
+  -- 'access on a used stamp', tag
+  row-14
+      : {at : ℕ} {o : Order}
+      → Prefix s at o
+      → Whole s at
+      → stampAt s at ≤ 100000000
+      → o .last ≤ stampAt s at
+      → accessAt s at ≡ true
+      → stampAt s at < o .free
+      → Given s 14 at
   -- 'bytes after the end field', first such byte
   row-10
       : {at : ℕ} {o : Order}

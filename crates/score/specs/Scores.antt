@@ -35,7 +35,7 @@ afterAdmit go s at f next (Unadmitted why) = bad (refused why at)
 afterAdmit go s at f next (Next o) =
     cond (isEnd (f .what)) (cond (ltb next (length s)) (bad (refused AfterEnd next)) (good (f ∷ []))) (push f (go next o))
 
--- a field that was read: '8, 9' next, at the tag
+-- a field that was read: '8, 9' and 14 next, at the tag
 abbrev pub afterRead : (ℕ → Order → Parsed) → List ℕ → ℕ → Order → FieldRead → Parsed
 afterRead go s at o (Unread r) = bad r
 afterRead go s at o (Got f next) = afterAdmit go s at f next (admit o f)

@@ -5,8 +5,8 @@ use refusals::Refused;
 ghost use mathlib.Core.Path.{_≡_};
 ghost use Prim.Native.Nat.{_-_};
 ghost use lib.ListN.{length};
-ghost use Rattle.score.specs.Fields.{lenOf, whatOf, valueOf, refuse, fieldAt, isEnd};
-ghost use Rattle.score.specs.Stamps.{unstamped, admit};
+ghost use Rattle.score.specs.Fields.{lenOf, whatOf, valueOf, refuse, fieldAt, isEnd, isAccess};
+ghost use Rattle.score.specs.Stamps.{unstamped, used, admit};
 ghost use Rattle.score.specs.Scores.{checked, verdict};
 ghost use Rattle.score.specs.Given.{Judged};
 
@@ -30,6 +30,21 @@ impl What {
             What::Read { address: _ } => false,
             What::Levels => false,
             What::End => true,
+        }
+    }
+
+    // What the chip's processor makes one of in a clock.
+    pub fn is_access(self) -> bool
+        ensures { λ r. ⌜ r ≡ isAccess self ⌝ }
+    {
+        match self {
+            What::Write {
+                address: _,
+                value: _,
+            } => true,
+            What::Read { address: _ } => true,
+            What::Levels => false,
+            What::End => false,
         }
     }
 }
@@ -123,16 +138,18 @@ pub fn field_at(s: &[u8], at: usize) -> FieldRead
     FieldRead::Got(value_of(tag, &s[from..]), from + n)
 }
 
-// The stamp of the field before, 0 before the first.
+// The stamp of the field before, and the first that is free for an access: the one after the access before. Each is 0
+// if there was none.
 pub struct Order {
     pub last: u32,
+    pub free: u32,
 }
 
 impl Order {
     pub fn new() -> Self
         ensures { λ r. ⌜ r ≡ unstamped ⌝ }
     {
-        Self { last: 0 }
+        Self { last: 0, free: 0 }
     }
 }
 
@@ -142,17 +159,43 @@ pub enum Admitted {
     Refused(Refusal),
 }
 
+// Whether a field is an access that isn't above the access before.
+fn is_used(o: Order, f: Field) -> bool
+    ensures { λ r. ⌜ r ≡ used o f ⌝ }
+{
+    let what = f.what;
+    if what.is_access() {
+        return f.stamp < o.free;
+    }
+    false
+}
+
 // The rules on a field's stamp, for whoever reads or writes fields.
 pub fn admit(o: Order, f: Field) -> Admitted
     ensures { λ r. ⌜ r ≡ admit o f ⌝ }
 {
+    let falls = f.stamp < o.last;
+    let used = is_used(o, f);
     if 100_000_000 < f.stamp {
         return Admitted::Refused(Refusal::StampTooLate);
     }
-    if f.stamp < o.last {
+    if falls {
         return Admitted::Refused(Refusal::StampFalls);
     }
-    Admitted::Next(Order { last: f.stamp })
+    if used {
+        return Admitted::Refused(Refusal::StampUsed);
+    }
+    let what = f.what;
+    if what.is_access() {
+        return Admitted::Next(Order {
+            last: f.stamp,
+            free: f.stamp + 1,
+        });
+    }
+    Admitted::Next(Order {
+        last: f.stamp,
+        free: o.free,
+    })
 }
 
 pub enum Checked {

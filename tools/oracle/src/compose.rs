@@ -1,5 +1,5 @@
 //! Scores by the seed: fields that fall where something inside the chip is under way, and scores
-//! that are cut or broken on purpose.
+//! that are cut, crowded or broken on purpose.
 
 use crate::aim;
 use crate::random::Random;
@@ -16,6 +16,7 @@ const TAGS: [u8; 10] = [0x01, 0x02, 0x03, 0x7f, 0x00, 0x04, 0x7e, 0x80, 0x81, 0x
 pub struct Composer<'a> {
     chip: &'a mut Mos6581,
     clocks: u32,
+    accessed: Option<u32>,
     pub fields: Vec<Field>,
 }
 
@@ -25,6 +26,7 @@ impl<'a> Composer<'a> {
         Self {
             chip,
             clocks: 0,
+            accessed: None,
             fields: Vec::new(),
         }
     }
@@ -36,6 +38,14 @@ impl<'a> Composer<'a> {
             self.chip.tick();
             self.clocks += 1;
         }
+    }
+
+    /// A clock on if this one has an access.
+    fn wait_for_the_bus(&mut self) {
+        if self.accessed == Some(self.clocks) {
+            self.wait_until(1, |_| false);
+        }
+        self.accessed = Some(self.clocks);
     }
 
     fn put(&mut self, event: Event) {
@@ -51,8 +61,12 @@ impl<'a> Composer<'a> {
     }
 
     fn put_aimed(&mut self, voice: usize, random: &mut Random) {
-        let event = match random.below(10) {
-            0 => Event::Levels,
+        let kind = random.below(10);
+        if kind == 0 {
+            return self.put(Event::Levels);
+        }
+        self.wait_for_the_bus();
+        let event = match kind {
             1 => Event::Read {
                 address: random.byte(),
             },
@@ -99,13 +113,23 @@ pub fn is_cut(seed: u64) -> bool {
     seed % 3 == 1
 }
 
+/// Whether it has accesses that share a clock: a sixth do, seed 2 the first.
+fn is_crowded(seed: u64) -> bool {
+    seed % 6 == 2
+}
+
 /// The score with this seed.
 pub fn generated(seed: u64, chip: &mut Mos6581) -> Vec<u8> {
     let mut random = Random::seeded(seed);
     if is_cut(seed) {
         let waits = random.below(8);
         let fields = Composer::new(chip).aimed(waits, 100, &mut random);
-        return cut_fields(&fields, &mut random);
+        return cut_fields(fields, &mut random);
+    }
+    if is_crowded(seed) {
+        let waits = random.below(8);
+        let fields = Composer::new(chip).aimed(waits, 100, &mut random);
+        return crowd_fields(fields, &mut random);
     }
     if random.below(4) != 0 {
         let (patience, waits) = match random.below(10) {
@@ -128,28 +152,77 @@ pub fn generated(seed: u64, chip: &mut Mos6581) -> Vec<u8> {
 
 /// Cut before any byte of any field. The field may have another fault, too, and the score be as long
 /// as one may be, a byte shorter or a byte longer.
-fn cut_fields(fields: &[Field], random: &mut Random) -> Vec<u8> {
-    let chosen = random.below(fields.len() as u32) as usize;
+fn cut_fields(mut fields: Vec<Field>, random: &mut Random) -> Vec<u8> {
+    let mut chosen = random.below(fields.len() as u32) as usize;
+    let kept = random.below(fields[chosen].bytes().len() as u32) as usize;
+    if random.below(8) == 0 {
+        let length = MOST_BYTES - 1 + random.below(3) as usize;
+        let filler = filler(length - score::bytes_of(&fields[..chosen]).len() - kept);
+        let later = filler.last().map_or(0, |last| last.stamp);
+        fields.iter_mut().for_each(|field| field.stamp += later);
+        chosen += filler.len();
+        fields.splice(0..0, filler);
+    }
     let place = score::bytes_of(&fields[..chosen]).len();
-    let mut score = score::bytes_of(fields);
+    let mut score = score::bytes_of(&fields);
     if random.below(2) == 0 {
         spoil(&mut score[place..], fields[chosen].stamp, random);
     }
-    score.truncate(place + random.below(fields[chosen].bytes().len() as u32) as usize);
-    if random.below(8) == 0 {
-        let length = MOST_BYTES - 1 + random.below(3) as usize;
-        score.splice(0..0, filler(length - score.len()));
-    }
+    score.truncate(place + kept);
     score
 }
 
-/// Fields stamped 0, so many bytes in all.
-fn filler(bytes: usize) -> Vec<u8> {
-    let [levels, read] = [Event::Levels, Event::Read { address: 0 }];
-    let [levels, read] = [levels, read].map(|event| Field { stamp: 0, event }.bytes());
-    let reads = bytes % levels.len();
-    let rest = bytes - reads * read.len();
-    [read.repeat(reads), levels.repeat(rest / levels.len())].concat()
+/// Fields of so many bytes in all. Reads, a byte longer than levels, make up the length; the levels
+/// after them stand on a clock that is free.
+fn filler(bytes: usize) -> Vec<Field> {
+    let read = |stamp| {
+        let event = Event::Read { address: 0 };
+        Field { stamp, event }
+    };
+    let levels = |stamp| {
+        let event = Event::Levels;
+        Field { stamp, event }
+    };
+    let reads = bytes % levels(0).bytes().len();
+    let rest = bytes - reads * read(0).bytes().len();
+    let stamp = reads as u32;
+    let mut fields: Vec<Field> = (0..stamp).map(read).collect();
+    fields.extend(vec![levels(stamp); rest / levels(0).bytes().len()]);
+    fields
+}
+
+/// Two accesses or three more before some field and on its clock, levels among them. What is amiss
+/// with the second of them may be something else, too.
+fn crowd_fields(mut fields: Vec<Field>, random: &mut Random) -> Vec<u8> {
+    let chosen = random.below(fields.len() as u32) as usize;
+    let stamp = fields[chosen].stamp;
+    let mut crowd = Vec::new();
+    let mut second = 0;
+    for number in 0..2 + random.below(2) {
+        for _ in 0..random.pick(&[0, 0, 1, 2]) {
+            crowd.push(Event::Levels);
+        }
+        if number == 1 {
+            second = chosen + crowd.len();
+        }
+        crowd.push(match random.below(2) {
+            0 => Event::Read {
+                address: random.byte(),
+            },
+            _ => Event::Write {
+                address: random.byte(),
+                value: random.byte(),
+            },
+        });
+    }
+    let crowd = crowd.into_iter().map(|event| Field { stamp, event });
+    fields.splice(chosen..chosen, crowd);
+    let place = score::bytes_of(&fields[..second]).len();
+    let mut score = score::bytes_of(&fields);
+    if random.below(6) == 0 {
+        spoil(&mut score[place..], stamp, random);
+    }
+    score
 }
 
 /// A fault in the field that stands first.

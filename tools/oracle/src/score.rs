@@ -41,6 +41,11 @@ impl Event {
         }
     }
 
+    /// A processor makes one of these in a clock.
+    pub fn is_access(self) -> bool {
+        matches!(self, Event::Write { .. } | Event::Read { .. })
+    }
+
     /// What follows the stamp.
     fn operands(self) -> Vec<u8> {
         match self {
@@ -76,6 +81,7 @@ pub fn check(score: &[u8]) -> Result<Vec<Field>, Refused> {
         });
     }
     let mut fields: Vec<Field> = Vec::new();
+    let mut accessed = None;
     let mut place = 0;
     while place < score.len() {
         let refused = |number| Err(Refused { number, place });
@@ -106,6 +112,12 @@ pub fn check(score: &[u8]) -> Result<Vec<Field>, Refused> {
         }
         if fields.last().is_some_and(|before| stamp < before.stamp) {
             return refused(9);
+        }
+        if matches!(tag, 0x01 | 0x02) {
+            if accessed.is_some_and(|before| stamp <= before) {
+                return refused(14);
+            }
+            accessed = Some(stamp);
         }
         let event = match tag {
             0x01 => Event::Write {

@@ -47,6 +47,7 @@ fn all() -> Vec<Vec<u8>> {
     scores.extend(aimed());
     scores.extend(refused_at_each_place());
     scores.extend(cut_before_each_byte());
+    scores.extend(two_accesses());
     scores.extend(refused_for_the_first_reason());
     scores.extend(at_the_latest_stamp());
     scores.extend(at_the_greatest_length());
@@ -96,24 +97,36 @@ fn accepted() -> Vec<Vec<u8>> {
     // All that is stamped as the end runs, in file order.
     scores.push(vec![
         write(5, 0x0e, 0x34),
-        write(5, 0x0f, 0x12),
-        write(5, 0x12, 0x21),
-        levels(5),
-        read(900, 0x1b),
-        read(900, 0x00),
-        write(900, 0x1f, 0x5a),
+        write(6, 0x0f, 0x12),
+        write(7, 0x12, 0x21),
+        levels(7),
+        read(897, 0x1b),
+        read(898, 0x00),
+        write(899, 0x1f, 0x5a),
+        levels(900),
         read(900, 0x00),
         levels(900),
         end(900),
+    ]);
+    // Levels and ends are no accesses, and the first access may stand on 0.
+    scores.push(vec![
+        levels(0),
+        write(0, 0x06, 0xf0),
+        levels(0),
+        write(1, 0x04, 0x11),
+        levels(1),
+        levels(40),
+        read(40, 0x1c),
+        end(40),
     ]);
     scores.push(every_address());
     scores.push(every_fade());
     scores.push(three_voices());
     scores.push(floating_code());
+    let scores = scores.iter().map(|fields| score::bytes_of(fields));
+    let scores: Vec<Vec<u8>> = scores.collect();
+    assert!(scores.iter().all(|score| score::check(score).is_ok()));
     scores
-        .iter()
-        .map(|fields| score::bytes_of(fields))
-        .collect()
 }
 
 /// Each byte is an address; its low five bits are what the chip decodes.
@@ -141,7 +154,7 @@ fn every_fade() -> Vec<Field> {
     fields
 }
 
-/// Notes with ring, sync and noise, gates that fall on the last clock.
+/// Notes with ring, sync and noise, gates that fall on the last clocks.
 fn three_voices() -> Vec<Field> {
     let mut fields = Vec::new();
     for voice in 0..3u8 {
@@ -149,10 +162,10 @@ fn three_voices() -> Vec<Field> {
         let at = 40 * u32::from(voice);
         fields.extend([
             write(at, base + 1, 0x1c << voice),
-            write(at, base + 3, 0x07),
-            write(at, base + 5, 0x10 + voice),
-            write(at, base + 6, 0xa4 - voice),
-            write(at, base + 4, [0x15, 0x43, 0x81][usize::from(voice)]),
+            write(at + 1, base + 3, 0x07),
+            write(at + 2, base + 5, 0x10 + voice),
+            write(at + 3, base + 6, 0xa4 - voice),
+            write(at + 4, base + 4, [0x15, 0x43, 0x81][usize::from(voice)]),
         ]);
     }
     for bar in 1..120 {
@@ -160,12 +173,12 @@ fn three_voices() -> Vec<Field> {
         fields.extend([levels(stamp), read(stamp, 0x1b), read(stamp + 1, 0x1c)]);
         if bar % 20 == 0 {
             let voice = (bar / 20 % 3) as u8;
-            fields.push(write(stamp + 1, 7 * voice + 4, 0x10));
+            fields.push(write(stamp + 2, 7 * voice + 4, 0x10));
             fields.push(write(stamp + 3, 7 * voice + 4, 0x51));
         }
     }
-    for voice in 0..3 {
-        fields.push(write(30_000, 7 * voice + 4, 0x40));
+    for voice in 0..3u8 {
+        fields.push(write(29_998 + u32::from(voice), 7 * voice + 4, 0x40));
     }
     fields.extend([levels(30_000), end(30_000)]);
     fields
@@ -176,7 +189,7 @@ fn floating_code() -> Vec<Field> {
     let captured = 500;
     vec![
         write(0, 0x08, 0x1f),
-        write(0, 0x0b, 0x21),
+        write(1, 0x0b, 0x21),
         levels(captured),
         write(captured, 0x0b, 0x01),
         levels(captured + FLOAT_WHOLE),
@@ -197,7 +210,7 @@ fn aimed() -> Vec<Vec<u8>> {
     scores
 }
 
-/// Each refusal from 5 to 12 at each field of a score.
+/// Each refusal from 5 to 14 at each field of a score.
 fn refused_at_each_place() -> Vec<Vec<u8>> {
     let fields = [
         write(3, 0x01, 0x40),
@@ -241,6 +254,11 @@ fn refused_at_each_place() -> Vec<Vec<u8>> {
                 scores.push(changed(HEADER_BYTES, &stamp.to_le_bytes()));
             }
         }
+        let is_access = |field: &&Field| field.event.is_access();
+        let before = fields[..number].iter().rfind(is_access);
+        if let (true, Some(before)) = (is_access(&field), before) {
+            scores.push(changed(HEADER_BYTES, &before.stamp.to_le_bytes()));
+        }
         // An end too early, and nothing but a byte after it.
         let mut early = whole[..place].to_vec();
         early.extend(end(field.stamp).bytes());
@@ -252,7 +270,8 @@ fn refused_at_each_place() -> Vec<Vec<u8>> {
 }
 
 /// Each kind of field, cut before each of its bytes: alone, after another field, with a second
-/// reason to be refused, and after an end, where it is that which is told.
+/// reason to be refused, on a clock that has an access, and after an end, where it is that which is
+/// told.
 fn cut_before_each_byte() -> Vec<Vec<u8>> {
     let nothing = Vec::new();
     let before = levels(7).bytes();
@@ -273,11 +292,39 @@ fn cut_before_each_byte() -> Vec<Vec<u8>> {
             (&before, changed(1, &[length - 1])),
             (&before, changed(HEADER_BYTES, &u32::MAX.to_le_bytes())),
             (&before, changed(HEADER_BYTES, &6u32.to_le_bytes())),
+            (&write(7, 0x04, 0x11).bytes(), whole.clone()),
             (&end(7).bytes(), whole.clone()),
         ];
         for (before, field) in cases {
             for cut in 1..field.len() {
                 scores.push([before, &field[..cut]].concat());
+            }
+        }
+    }
+    scores
+}
+
+/// Each kind of access after each, on the clock before, the same clock and the one after, with levels
+/// between or without. An access that is below the field before, too, is refused for that.
+fn two_accesses() -> Vec<Vec<u8>> {
+    let kinds: [fn(u32) -> Field; 2] = [|at| write(at, 0x04, 0x11), |at| read(at, 0x1b)];
+    let mut scores = Vec::new();
+    for first in kinds {
+        for second in kinds {
+            for between in [&[][..], &[0], &[0, 1]] {
+                for stamp in [0, 1, 700, LATEST_STAMP] {
+                    let before = first(stamp).bytes();
+                    let levels = between.iter().map(|later| levels(stamp + later));
+                    let before = [before, levels.flat_map(Field::bytes).collect()].concat();
+                    for again in stamp.saturating_sub(1)..=stamp + 1 {
+                        let mut score = [&before[..], &second(again).bytes()].concat();
+                        // Without an end where it would have to be played for long.
+                        if stamp < LATEST_STAMP {
+                            score.extend(end(again).bytes());
+                        }
+                        scores.push(score);
+                    }
+                }
             }
         }
     }
@@ -359,7 +406,7 @@ fn of_length(bytes: usize) -> Vec<u8> {
         stamp += 5;
     }
     while left(&score) > 0 {
-        stamp += random.below(13);
+        stamp += 1 + random.below(12);
         score.extend(write(stamp, random.byte(), random.byte()).bytes());
     }
     score.extend(last);
