@@ -10,8 +10,9 @@ play:
 test:
 	@bash .ci/run
 
-# The bundled score anew from its text.
+# The bundled score anew from its text; `write`, which makes it, is proved and built first.
 scores:
+	rt check write
 	sh tools/score.sh scores/first_light.txt > scores/first_light
 
 # The oracle's lists anew, from the original in SID_SOURCE (tools/oracle/README.md).
@@ -26,6 +27,8 @@ lists:
 	tools/oracle/target/release/oracle list sid > crates/sid_cases/stdin
 	tools/oracle/target/release/oracle list waveforms > crates/waveforms_cases/data/waveforms
 	tools/oracle/target/release/oracle list settling > crates/waveforms_cases/data/settling
+	tools/oracle/target/release/oracle list writer_lists > crates/writer_cases/stdin
+	tools/oracle/target/release/oracle list writer_answers > crates/writer_cases/stdout
 
 # Not in the gate: the programs in target/bin (make test) against the original at length, by the seed.
 compare:
@@ -33,6 +36,8 @@ compare:
 	tools/oracle/target/release/oracle compare-calls 1000 100000 1 sh tools/run.sh target/bin/sid_cases
 	tools/oracle/target/release/oracle compare-scores 7500 1 sh $(CURDIR)/tools/run.sh $(CURDIR)/target/bin/replay_cases
 	tools/oracle/target/release/oracle compare-replay 20 1 sh tools/run.sh target/bin/replay
+	tools/oracle/target/release/oracle compare-writer 7500 1 sh tools/run.sh target/bin/writer_cases
+	tools/oracle/target/release/oracle compare-texts 300 1 sh tools/run.sh target/bin
 
 # This chip against the original, scene by scene (docs/PERFORMANCE.md). Needs cargo, and the original as for the lists.
 bench:

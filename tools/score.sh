@@ -1,5 +1,5 @@
 #!/bin/sh
-# The bytes of a score from its text: sh tools/score.sh scores/NAME.txt > scores/NAME
+# A score from its text: sh tools/score.sh scores/NAME.txt > scores/NAME
 #
 #   CLOCK write ADDRESS VALUE       CLOCK levels
 #   CLOCK read ADDRESS              CLOCK end
@@ -8,19 +8,21 @@
 #
 # A field a line, CLOCK decimal, ADDRESS, VALUE and CONTROL in hex; `#` after a space or at a line's start begins a
 # comment. A clock has one write or read: after a note the next one stands on CLOCK + 3 or later, and levels or an end
-# on CLOCK + 2 or later. Fields are written as they stand: that a score is accepted is for `replay` to say. Needs sh,
-# awk, printf.
+# on CLOCK + 2 or later. The program `write` makes the bytes; what it refuses is told on standard error. Needs the Rattle
+# toolchain, sh, awk.
 set -eu
 export LC_ALL=C
 [ $# -eq 1 ] || { echo "usage: sh tools/score.sh TEXT > SCORE" >&2; exit 2; }
+text=$1
+root=$(dirname "$0")/..
+[ -x "$root/target/bin/write" ] || (cd "$root" && rt check write) >&2
 
-# awk gives each field in octal escapes, since not every awk prints a byte of 0
+# what `write` takes: a field a line, all decimal
 fields=$(awk '
   function fail(why) { print FILENAME ":" FNR ": " why > "/dev/stderr"; failed = 1; exit 1 }
-  function byte(n) { return sprintf("\\%03o", n % 256) }
-  function field(tag, length_, stamp) {
+  function field(kind, stamp, operands) {
     if (stamp > 4294967295) fail("beyond a clock of four bytes: " $1)
-    return byte(tag) byte(length_) byte(0) byte(stamp) byte(int(stamp / 256)) byte(int(stamp / 65536)) byte(int(stamp / 16777216))
+    printf "%s %.0f%s\n", kind, stamp, operands
   }
   function hex(text,    i, d, n) {
     if (text == "" || length(text) > 2) fail("not two hex digits: " text)
@@ -31,7 +33,7 @@ fields=$(awk '
     }
     return n
   }
-  function write(stamp, address, value) { print field(1, 6, stamp) byte(address) byte(value) }
+  function write(stamp, address, value) { field("write", stamp, " " address " " value) }
   # the sixth octave, A4 at 440 Hz, in units of 985248 / 2^24 Hz; each octave below is half of it
   function frequency(name,    letters, octave) {
     letters = substr(name, 1, length(name) - 1)
@@ -49,9 +51,8 @@ fields=$(awk '
   NF == 0 { next }
   $1 !~ /^[0-9]+$/ { fail("not a clock: " $1) }
   $2 == "write" { words(4); write($1, hex($3), hex($4)); next }
-  $2 == "read" { words(3); print field(2, 5, $1) byte(hex($3)); next }
-  $2 == "levels" { words(2); print field(3, 4, $1); next }
-  $2 == "end" { words(2); print field(127, 4, $1); next }
+  $2 == "read" { words(3); field("read", $1, " " hex($3)); next }
+  $2 == "levels" || $2 == "end" { words(2); field($2, $1, ""); next }
   $2 == "note" {
     words(5)
     if ($3 !~ /^[0-2]$/) fail("not a voice: " $3)
@@ -63,5 +64,16 @@ fields=$(awk '
   }
   { fail("not a field: " $2) }
   END { exit failed }
-' "$1")
-printf '%s\n' "$fields" | while IFS= read -r bytes; do printf "$bytes"; done
+' "$text")
+[ -n "$fields" ] || exit 0
+made=$(mktemp)
+trap 'rm -f "$made"' EXIT
+printf '%s\n' "$fields" | sh "$root/tools/run.sh" "$root/target/bin/write" > "$made"
+# a score begins with a tag, which is no letter
+case $(dd if="$made" bs=1 count=1 2> /dev/null) in
+r | l)
+  echo "$text: $(cat "$made")" >&2
+  exit 1
+  ;;
+esac
+cat "$made"

@@ -1,5 +1,5 @@
--- Pieces put one after the other are their join; bytes that don't fit change nothing; a number of 64 bits has at most
--- 20 digits. Assumes nothing.
+-- Pieces put one after the other are their join, and stand where they were put; a buffer keeps its length; bytes that
+-- don't fit change nothing; a number of 64 bits has at most 20 digits. Assumes nothing.
 use Prim.Native.Nat.{ℕ, zero, suc, _+_, _*_, _/_, _^_, _≤_, _<_}
 use native.Mathlib.Nat.{add-zero, add-suc, suc-add, pow-succ'}
 use native.Mathlib.Numerals.{add-one}
@@ -8,12 +8,12 @@ use mathlib.Core.Bool.{Bool, true, false, cond}
 use mathlib.Core.List.{List, [], _∷_, _++_}
 use mathlib.Core.Path.{_≡_, refl, ap, _∙_}
 use lib.Dec.{ltb}
-use lib.ListN.{length, set, length-append, take, getD}
-use lib.Seq.{sets, take-suc, length-take-le}
+use lib.ListN.{length, set, length-append, take, drop, getD}
+use lib.Seq.{sets, sets-eq, length-sets, take-at, take-suc, length-take-le}
 use borrow.Author.Tests.{lt-ltb, le-ltb, ltb-true, ltb-false, le-leb, lt-leb}
 use Rattle.listing.specs.Text.{Put, fits, copied, one, lastDigit, digits, decimal}
 
-sets-append : (xs ys l : List ℕ) (i : ℕ) → sets l i (xs ++ ys) ≡ sets (sets l i xs) (i + length xs) ys
+pub sets-append : (xs ys l : List ℕ) (i : ℕ) → sets l i (xs ++ ys) ≡ sets (sets l i xs) (i + length xs) ys
 sets-append [] ys l i = rw add-zero
 sets-append (a ∷ xs) ys l i = sets-append xs ys (set l i a) (suc i) ∙ rw (suc-add i (length xs), add-suc i (length xs))
 
@@ -23,6 +23,16 @@ then {l} {at} {xs} {r} {m} {ys} {q} {n} p o =
       place = omega (arith, length-append xs ys, p .place, o .place);
       bytes = o .bytes ∙ rw (p .bytes, p .place, sets-append xs ys l at);
     }
+
+-- a buffer keeps its length
+pub put-kept : (n : ℕ) {l : List ℕ} {at : ℕ} {xs : List ℕ} {r : ℕ} {m : List ℕ} → Put l at xs r m → length l ≡ n → length m ≡ n
+put-kept n {l} {at} {xs} p e = ap length (p .bytes) ∙ (length-sets l at xs ∙ e)
+
+-- what was put at the start of a list that has room for it
+pub take-put : {l xs : List ℕ} {r : ℕ} {m : List ℕ} → Put l 0 xs r m → r ≤ length l → take r m ≡ xs
+take-put {l} {xs} {r} o h =
+    let q : r ≡ length xs = omega (arith, o .place) in
+    rw (o .bytes, q, sets-eq xs l 0 (omega arith)) (take-at xs (drop (0 + length xs) l) (length xs) refl)
 
 -- one byte more of w
 pub sets-more

@@ -1,11 +1,14 @@
-// The lines that `replay` prints (document 01, 'Score and program'), each put at the start of a lent buffer of `TEXT`
-// bytes.
+// The lines that `replay` prints (document 01, 'Score and program'), and those of a score's fields, each put at the
+// start of a lent buffer of `TEXT` bytes.
 use refusals::Refused;
+use score::Field;
+use score::What;
 ghost use mathlib.Core.Path.{_≡_};
 ghost use Prim.Native.Nat.{_+_, _≤_, _<_};
 ghost use lib.ListN.{length};
 ghost use Rattle.refusals.specs.Refusals.{told};
 ghost use Rattle.listing.specs.Text.{Put, fits, copied, one, decimal, hexDigit, hex2, hex3, opening, spaced, voice, textRoom, readLine, levelsLine, endLine, refusedLine};
+ghost use Rattle.listing.specs.FieldText.{spacedNumber, wordOf, operands, fieldLine};
 
 // Room for what a step prints: several lines, of which none has 64 bytes.
 pub const TEXT: usize = 512;
@@ -161,4 +164,54 @@ pub fn refused_line(out: &mut [u8; TEXT], r: Refused) -> usize
     let c = put_bytes(out, b, b" at ");
     let d = put_number(out, c, r.place);
     put(out, d, b'\n')
+}
+
+// `put_number` after a space.
+fn put_spaced_number(out: &mut [u8], at: usize, n: usize) -> usize
+    requires { ⌜ at + 21 ≤ length (now out) ⌝ }
+    ensures { λ r. ⌜ Put (now (out .entry)) at (spacedNumber n) r (now (out .exit)) × (r ≤ at + 21) ⌝ }
+{
+    let a = put(out, at, b' ');
+    put_number(out, a, n)
+}
+
+fn put_word(out: &mut [u8], what: What) -> usize
+    requires { ⌜ 6 ≤ length (now out) ⌝ }
+    ensures { λ r. ⌜ Put (now (out .entry)) 0 (wordOf what) r (now (out .exit)) × (r ≤ 6) ⌝ }
+{
+    match what {
+        What::Write {
+            address: _,
+            value: _,
+        } => put_bytes(out, 0, b"write"),
+        What::Read { address: _ } => put_bytes(out, 0, b"read"),
+        What::Levels => put_bytes(out, 0, b"levels"),
+        What::End => put_bytes(out, 0, b"end"),
+    }
+}
+
+// What follows a field's stamp.
+fn put_operands(out: &mut [u8], at: usize, what: What) -> usize
+    requires { ⌜ at + 42 ≤ length (now out) ⌝ }
+    ensures { λ r. ⌜ Put (now (out .entry)) at (operands what) r (now (out .exit)) × (r ≤ at + 42) ⌝ }
+{
+    match what {
+        What::Write { address, value } => {
+            let a = put_spaced_number(out, at, address as usize);
+            put_spaced_number(out, a, value as usize)
+        }
+        What::Read { address } => put_spaced_number(out, at, address as usize),
+        What::Levels => at,
+        What::End => at,
+    }
+}
+
+pub fn field_line(out: &mut [u8; TEXT], f: Field) -> usize
+    ensures { λ r. ⌜ Put (now (out .entry)) 0 (fieldLine f) r (now (out .exit)) × (r ≤ textRoom) ⌝ }
+{
+    let what = f.what;
+    let a = put_word(out, what);
+    let b = put_spaced_number(out, a, f.stamp as usize);
+    let c = put_operands(out, b, what);
+    put(out, c, b'\n')
 }

@@ -6,13 +6,14 @@ use native.Mathlib.Omega.{arith}
 use mathlib.Core.Bool.{true}
 use mathlib.Core.List.{List, [], _++_, append-nil, append-assoc}
 use mathlib.Core.Path.{_≡_, refl, ap, ap₂, sym, subst, _∙_}
-use lib.ListN.{length, take, drop, length-append}
-use lib.Seq.{sets-eq, take-at, length-sets}
+use lib.ListN.{length, take, length-append}
 use borrow.Author.Tests.{lt-ltb, le-ltb, le-leb}
 use Rattle.listing.specs.Text.{Put, copied, textRoom}
-use Rattle.listing.proofs.Joins.{then}
+use Rattle.listing.proofs.Joins.{then, put-kept, take-put}
 use Rattle.oscillator.specs.Ways.{Ways}
-use Rattle.player.specs.declared.Listed.the-variants.{Written, NoRoom}
+use Rattle.refusals.specs.Refusals.{refused}
+use Rattle.refusals.specs.declared.Refusal.the-variants.{NoRoom}
+use Rattle.player.specs.declared.Listed.the-variants.{Written, Refused}
 use Rattle.player.specs.declared.Player.{Player}
 use Rattle.player.specs.declared.Rest.{Rest}
 use Rattle.player.specs.declared.Rest.the-variants.{Fields, Refusal, Nothing}
@@ -79,12 +80,6 @@ module _ (w : Ways) (n : ℕ) (s : List ℕ) (p : Player) where
 pub nothing-after : {xs ys zs : List ℕ} → xs ++ ys ≡ zs → ys ≡ [] → xs ≡ zs
 nothing-after {xs} whole e = sym (append-nil xs) ∙ (ap (λ (ys : List ℕ). xs ++ ys) (sym e) ∙ whole)
 
--- what was put at the start of a list that has room for it
-pub take-put : {l xs : List ℕ} {r : ℕ} {m : List ℕ} → Put l 0 xs r m → r ≤ length l → take r m ≡ xs
-take-put {l} {xs} {r} o h =
-    let q : r ≡ length xs = omega (arith, o .place) in
-    rw (o .bytes, q, sets-eq xs l 0 (omega arith)) (take-at xs (drop (0 + length xs) l) (length xs) refl)
-
 -- two permitted outcomes of a step are one
 pub does-one : {t : Turn} {l : List ℕ} {r r′ : Stepped} {m m′ : List ℕ} → Does t l r m → Does t l r′ m′ → (r ≡ r′) × (m ≡ m′)
 does-one {t} {l} {r} {r′} d d′ =
@@ -97,7 +92,7 @@ module _ {t : Turn} {l : List ℕ} {r : Stepped} {m : List ℕ} (d : Does t l r 
   line-is = take-put (d .put) (omega (arith, d .fits))
 
   pub line-kept : length m ≡ textRoom
-  line-kept = ap length (d .put .bytes) ∙ (length-sets l 0 (t .text) ∙ e)
+  line-kept = put-kept textRoom (d .put) e
 
 pub len-first : (w : Ways) (s : List ℕ) (p : Player) → p ≡ startOf s → length (lines w mostSteps s p) ≡ length (listingBy w s)
 len-first w s p e = ap (λ (q : Player). length (lines w mostSteps s q)) e ∙ ap length (enough-steps w s)
@@ -168,7 +163,7 @@ module _ {w : Ways} {s l : List ℕ} {q : Player} {left at : ℕ} {m : List ℕ}
   listed-all e = subst (λ (text : List ℕ). Put l 0 text at m) (nothing-after listed-whole e) (k .put)
 
 module _ (w : Ways) (s l : List ℕ) where
-  pub no-room : length l < length (listingBy w s) → (NoRoom ≡ intoAnswer w s (length l)) × (l ≡ intoBuffer w s l)
+  pub no-room : length l < length (listingBy w s) → (Refused (refused NoRoom 0) ≡ intoAnswer w s (length l)) × (l ≡ intoBuffer w s l)
   unfolding intoAnswer intoBuffer
   no-room h = simp (lt-ltb (length l) (length (listingBy w s)) h) (refl, refl)
 

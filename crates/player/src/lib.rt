@@ -3,6 +3,7 @@
 // afresh, so an empty pack serves as well.
 use listing::TEXT;
 use panel::Panel;
+use refusals::Refusal;
 use refusals::Refused;
 use score::Checked;
 use score::Field;
@@ -198,16 +199,19 @@ fn write_listing(s: &[u8], pack: &[u16], out: &mut [u8]) -> usize
 
 pub enum Listed {
     Written(usize),
-    NoRoom,
+    Refused(Refused),
 }
 
-// A score's listing at the start of a lent buffer; or the buffer as it was, where the listing is longer.
+// A score's listing at the start of a lent buffer; or 13 at 0 and the buffer as it was, where the listing is longer.
 pub fn listing_into(s: &[u8], pack: &[u16], out: &mut [u8]) -> Listed
     ensures { λ r. ⌜ (r ≡ intoAnswer (over (now (pack .entry))) (now (s .entry)) (length (now (out .entry)))) × (now (out .exit) ≡ intoBuffer (over (now (pack .entry))) (now (s .entry)) (now (out .entry))) ⌝ }
 {
     let total = listing_len(s, pack);
     if out.len() < total {
-        return Listed::NoRoom;
+        return Listed::Refused(Refused {
+            why: Refusal::NoRoom,
+            place: 0,
+        });
     }
     let len = write_listing(s, pack, out);
     Listed::Written(len)

@@ -8,8 +8,9 @@ use mathlib.Core.Logic.{_⊎_, ⊎-elim}
 use mathlib.Core.Path.{_≡_, refl, ap, sym, subst, _∙_}
 use lib.ListN.{length, take, length-append}
 use Rattle.listing.specs.Text.{Put, textRoom}
+use Rattle.listing.proofs.Joins.{take-put}
 use Rattle.oscillator.specs.Ways.{Ways}
-use Rattle.player.proofs.Loops.{lines-over, lines-none, nothing-after, take-put, made-whole}
+use Rattle.player.proofs.Loops.{lines-over, lines-none, nothing-after, made-whole}
 use Rattle.player.proofs.Played.{enough-steps}
 use Rattle.player.specs.declared.Player.{Player}
 use Rattle.player.specs.Listing.{listingBy}

@@ -4,14 +4,13 @@ use mathlib.Core.Path.{_≡_, refl, ap, sym, _∙_}
 use mathlib.Core.List.{[], _∷_}
 use lib.ListN.{getD}
 use Rattle.refusals.specs.declared.Refusal.{Refusal}
-use Rattle.refusals.specs.declared.Refusal.the-variants.{NoTable, TableLength, VoiceNumber, ScoreLength, HeaderCut, UnknownTag, FieldLength, StampTooLate, StampFalls, AfterEnd, NoEnd, ValueCut, StampUsed, PackLength}
+use Rattle.refusals.specs.declared.Refusal.the-variants.{NoTable, TableLength, VoiceNumber, ScoreLength, HeaderCut, UnknownTag, FieldLength, StampTooLate, StampFalls, AfterEnd, NoEnd, ValueCut, NoRoom, StampUsed, PackLength}
 use Rattle.refusals.specs.declared.Refused.{Refused}
 use Rattle.refusals.specs.Refusals.{numberOf, refused, Told, told}
 
--- any refusal will do for 13, which is no number of these
 named : ℕ → Refusal
 named n =
-    getD (NoTable ∷ TableLength ∷ VoiceNumber ∷ ScoreLength ∷ HeaderCut ∷ UnknownTag ∷ FieldLength ∷ StampTooLate ∷ StampFalls ∷ AfterEnd ∷ NoEnd ∷ ValueCut ∷ StampUsed ∷ StampUsed ∷ []) (n - 1) PackLength
+    getD (NoTable ∷ TableLength ∷ VoiceNumber ∷ ScoreLength ∷ HeaderCut ∷ UnknownTag ∷ FieldLength ∷ StampTooLate ∷ StampFalls ∷ AfterEnd ∷ NoEnd ∷ ValueCut ∷ NoRoom ∷ StampUsed ∷ []) (n - 1) PackLength
 
 named-number : (r : Refusal) → named (numberOf r) ≡ r
 unfolding named
@@ -27,6 +26,7 @@ named-number StampFalls = refl
 named-number AfterEnd = refl
 named-number NoEnd = refl
 named-number ValueCut = refl
+named-number NoRoom = refl
 named-number StampUsed = refl
 named-number PackLength = refl
 

@@ -3,7 +3,7 @@
 use Prim.Native.Nat.{ℕ}
 use Rattle.refusals.specs.declared.Refused.{Refused}
 use Rattle.refusals.specs.declared.Refusal.{Refusal}
-use Rattle.refusals.specs.declared.Refusal.the-variants.{NoTable, TableLength, VoiceNumber, ScoreLength, HeaderCut, UnknownTag, FieldLength, StampTooLate, StampFalls, AfterEnd, NoEnd, ValueCut, StampUsed, PackLength}
+use Rattle.refusals.specs.declared.Refusal.the-variants.{NoTable, TableLength, VoiceNumber, ScoreLength, HeaderCut, UnknownTag, FieldLength, StampTooLate, StampFalls, AfterEnd, NoEnd, ValueCut, NoRoom, StampUsed, PackLength}
 
 abbrev pub numberOf : Refusal → ℕ
 -- table for a selection above 15 or with under two bits; place 0
@@ -30,6 +30,8 @@ numberOf AfterEnd = 10
 numberOf NoEnd = 11
 -- document 02: cut value; place: the first missing byte, the score's length
 numberOf ValueCut = 12
+-- document 02: room too small; place: the place reached in a buffer that is filled call by call, else 0
+numberOf NoRoom = 13
 -- document 02: access on a used stamp; place: the tag
 numberOf StampUsed = 14
 -- document 02: pack not 45,056 entries; place 0

@@ -15,6 +15,7 @@ pub enum Refusal {
     AfterEnd,
     NoEnd,
     ValueCut,
+    NoRoom,
     StampUsed,
     PackLength,
 }
@@ -41,6 +42,7 @@ pub fn number(r: Refusal) -> u8
         Refusal::AfterEnd => 10,
         Refusal::NoEnd => 11,
         Refusal::ValueCut => 12,
+        Refusal::NoRoom => 13,
         Refusal::StampUsed => 14,
         Refusal::PackLength => 15,
     }

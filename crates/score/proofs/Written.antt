@@ -57,12 +57,13 @@ module _ (s : List ℕ) (small : Bytes s) where
 
 -- ---- a field that was written is read back
 
-record Shape (t : ℕ) (w : What) : Type 0 where
-  four : 4 ≤ lenOf (tagOf w)
-  six : lenOf (tagOf w) ≤ 6
-  long : length (written (stamped t w)) ≡ 3 + lenOf (tagOf w)
+-- how long a field's bytes are
+pub record Shape (t : ℕ) (w : What) : Type 0 where
+  pub four : 4 ≤ lenOf (tagOf w)
+  pub six : lenOf (tagOf w) ≤ 6
+  pub long : length (written (stamped t w)) ≡ 3 + lenOf (tagOf w)
 
-shape : (t : ℕ) (w : What) → Shape t w
+pub shape : (t : ℕ) (w : What) → Shape t w
 unfolding lenOf written bytesOf
 shape t (Write a v) = record { four = omega arith; six = omega arith; long = refl }
 shape t (Read a) = record { four = omega arith; six = omega arith; long = refl }

@@ -11,16 +11,21 @@ use std::process::{self, Command, Stdio};
 use std::thread;
 
 use crate::aim;
+use crate::append;
 use crate::calls::{Recorder, Rule, RECORD_BYTES};
 use crate::compose;
-use crate::lists;
+use crate::lines;
+use crate::lists::{self, WriterCalls};
 use crate::score;
 use crate::sid::sid::Mos6581;
+use crate::text::{self, Fault};
 
 /// A run of `sid_cases` has the calls of so many seeds, so that its pack is seldom filled.
 const SEEDS_AT_ONCE: u64 = 40;
 /// A run of `replay_cases` has so many scores; it takes 65,536 at the most.
 const SCORES_AT_ONCE: u64 = 5_000;
+/// A run of `writer_cases` has the calls of so many seeds; it takes 65,536 at the most.
+const LISTS_AT_ONCE: u64 = 500;
 
 /// Feeds `sid_cases` the aimed calls of so many seeds, each of so many ticks or more.
 pub fn calls(program: &[&OsStr], seeds: u64, ticks: u64, first: u64) -> io::Result<bool> {
@@ -141,6 +146,91 @@ fn scores_in(folder: &Path, program: &[&OsStr], count: u64, first: u64) -> io::R
     println!("{count} scores, {cut} of them cut, {clocks} clocks: no difference");
     for (number, scores) in refused {
         println!("refused {number}: {scores}");
+    }
+    Ok(true)
+}
+
+/// Feeds `writer_cases` the calls of so many seeds.
+pub fn writer(program: &[&OsStr], count: u64, first: u64) -> io::Result<bool> {
+    let mut chip = Mos6581::new();
+    let mut calls = 0;
+    let mut played = 0;
+    let mut refused = BTreeMap::new();
+    for batch in batches(first..first + count, LISTS_AT_ONCE) {
+        let lists: Vec<WriterCalls> = batch.clone().map(append::seeded).collect();
+        let records: Vec<u8> = lists.iter().flat_map(WriterCalls::record).collect();
+        let said = answer(program, &records)?;
+        let mut rest = &said[..];
+        for (number, (seed, list)) in batch.zip(&lists).enumerate() {
+            let due = list.answers(number, &mut chip);
+            let Some(after) = rest.strip_prefix(due.lines.as_bytes()) else {
+                println!("seed {seed}: the answers differ");
+                return Ok(false);
+            };
+            rest = after;
+            calls += due.told.len();
+            played += u64::from(list.played);
+            for told in due.told.into_iter().filter_map(Result::err) {
+                *refused.entry(told).or_insert(0) += 1;
+            }
+        }
+        if !rest.is_empty() {
+            println!("more than {} lists are answered", lists.len());
+            return Ok(false);
+        }
+    }
+    let taken = calls - refused.values().sum::<usize>();
+    println!("{count} lists, {played} of them played: no difference");
+    println!("{calls} calls, {taken} of them taken");
+    for (number, calls) in refused {
+        println!("refused {number}: {calls}");
+    }
+    Ok(true)
+}
+
+/// Feeds `fields` the scores of so many seeds, and `write` what it must print and texts of its own.
+/// The programs are in the folder.
+pub fn texts(runner: &[&OsStr], folder: &OsStr, count: u64, first: u64) -> io::Result<bool> {
+    let fields = Path::new(folder).join("fields");
+    let fields = [runner, &[fields.as_os_str()]].concat();
+    let write = Path::new(folder).join("write");
+    let write = [runner, &[write.as_os_str()]].concat();
+    let mut chip = Mos6581::new();
+    let mut accepted = 0;
+    let mut no_field = 0;
+    let mut refused = BTreeMap::new();
+    for seed in first..first + count {
+        let score = compose::generated(seed, &mut chip);
+        let text = text::of_score(&score).into_bytes();
+        if answer(&fields, &score)? != text {
+            println!("seed {seed}: the fields differ");
+            return Ok(false);
+        }
+        if score::check(&score).is_ok() {
+            accepted += 1;
+            if answer(&write, &text)? != score {
+                println!("seed {seed}: the score written again differs");
+                return Ok(false);
+            }
+        }
+        let (text, size) = lines::seeded(seed);
+        let written = text::written(&text, size);
+        let words: Vec<String> = size.iter().map(u64::to_string).collect();
+        let words: Vec<&OsStr> = words.iter().map(OsStr::new).collect();
+        if answer(&[&write[..], &words].concat(), &text)? != text::output(&written) {
+            println!("seed {seed}: what is written differs, the size given is {size:?}");
+            return Ok(false);
+        }
+        match written {
+            Ok(_) => {}
+            Err(Fault::NoField(_)) => no_field += 1,
+            Err(Fault::Refused { number, .. }) => *refused.entry(number).or_insert(0) += 1,
+        }
+    }
+    println!("{count} scores as text, {accepted} of them written again: no difference");
+    println!("{count} texts, {no_field} of them told a line that is no field: no difference");
+    for (number, texts) in refused {
+        println!("refused {number}: {texts}");
     }
     Ok(true)
 }

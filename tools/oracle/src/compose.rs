@@ -3,7 +3,8 @@
 
 use crate::aim;
 use crate::random::Random;
-use crate::score::{self, Event, Field, HEADER_BYTES, LATEST_STAMP, MOST_BYTES, STAMP_BYTES};
+use crate::score::{self, end, levels, read, Event, Field};
+use crate::score::{HEADER_BYTES, LATEST_STAMP, MOST_BYTES, STAMP_BYTES};
 use crate::sid::sid::Mos6581;
 
 /// A broken score that is accepted all the same is not played for longer than this.
@@ -174,19 +175,11 @@ fn cut_fields(mut fields: Vec<Field>, random: &mut Random) -> Vec<u8> {
 
 /// Fields of so many bytes in all. Reads, a byte longer than levels, make up the length; the levels
 /// after them stand on a clock that is free.
-fn filler(bytes: usize) -> Vec<Field> {
-    let read = |stamp| {
-        let event = Event::Read { address: 0 };
-        Field { stamp, event }
-    };
-    let levels = |stamp| {
-        let event = Event::Levels;
-        Field { stamp, event }
-    };
+pub fn filler(bytes: usize) -> Vec<Field> {
     let reads = bytes % levels(0).bytes().len();
-    let rest = bytes - reads * read(0).bytes().len();
+    let rest = bytes - reads * read(0, 0).bytes().len();
     let stamp = reads as u32;
-    let mut fields: Vec<Field> = (0..stamp).map(read).collect();
+    let mut fields: Vec<Field> = (0..stamp).map(|stamp| read(stamp, 0)).collect();
     fields.extend(vec![levels(stamp); rest / levels(0).bytes().len()]);
     fields
 }
@@ -247,9 +240,8 @@ fn break_fields(fields: &[Field], random: &mut Random) -> Vec<u8> {
         0..=5 => spoil(&mut score[place..], stamp, random),
         // An end too early, and after it what looks like a field that is cut.
         6 => {
-            let event = Event::End;
             score.truncate(after - random.below((after - place) as u32) as usize);
-            score.splice(place..place, Field { stamp, event }.bytes());
+            score.splice(place..place, end(stamp).bytes());
         }
         7 => {
             let length = MOST_BYTES - 1 + random.below(3) as usize;

@@ -8,14 +8,16 @@ mod replay;
 mod settling;
 mod sid;
 mod waveforms;
+mod writer;
 
 use std::ffi::OsStr;
 
 pub use replay::{listing_in_one, scores_in_one};
+pub use writer::{Calls as WriterCalls, MOST_ROOM};
 
 type List = fn() -> Vec<u8>;
 
-const LISTS: [(&str, List); 9] = [
+const LISTS: [(&str, List); 11] = [
     ("bus", bus::list),
     ("envelope", envelope::list),
     ("oscillator_calls", oscillator::calls),
@@ -25,6 +27,8 @@ const LISTS: [(&str, List); 9] = [
     ("settling", settling::list),
     ("sid", sid::list),
     ("waveforms", waveforms::list),
+    ("writer_answers", writer::answers),
+    ("writer_lists", writer::lists),
 ];
 
 pub fn named(name: &OsStr) -> Option<List> {

@@ -2,15 +2,19 @@
 //! those programs with the original at length.
 
 mod aim;
+mod append;
 mod calls;
 mod compare;
 mod compose;
+mod lines;
 mod lists;
 mod random;
 mod score;
 // The lists call only parts of the original.
 #[allow(dead_code)]
 mod sid;
+mod text;
+mod writer;
 
 use std::env;
 use std::ffi::{OsStr, OsString};
@@ -28,9 +32,14 @@ fn main() -> ExitCode {
         eprintln!("       oracle compare-calls SEEDS TICKS FIRST_SEED SID_CASES...");
         eprintln!("       oracle compare-scores SCORES FIRST_SEED REPLAY_CASES...");
         eprintln!("       oracle compare-replay SCORES FIRST_SEED REPLAY...");
+        eprintln!("       oracle compare-writer LISTS FIRST_SEED WRITER_CASES...");
+        eprintln!("       oracle compare-texts TEXTS FIRST_SEED RUNNER... FOLDER");
         eprintln!("       oracle calls SEED TICKS");
         eprintln!("       oracle score SEED");
         eprintln!("       oracle listing < SCORE");
+        eprintln!("       oracle appends SEED");
+        eprintln!("       oracle appended SEED");
+        eprintln!("       oracle text SEED");
         return ExitCode::from(2);
     };
     match done {
@@ -57,6 +66,12 @@ fn obey(arguments: &[&OsStr]) -> Option<io::Result<bool>> {
         ("compare-replay", [count, first, program @ ..]) if !program.is_empty() => {
             compare::replay(program, number(count)?, number(first)?)
         }
+        ("compare-writer", [count, first, program @ ..]) if !program.is_empty() => {
+            compare::writer(program, number(count)?, number(first)?)
+        }
+        ("compare-texts", [count, first, runner @ .., folder]) => {
+            compare::texts(runner, folder, number(count)?, number(first)?)
+        }
         ("calls", &[seed, ticks]) => {
             let mut recorder = Recorder::new();
             aim::seeded_calls(&mut recorder, number(seed)?, number(ticks)?);
@@ -64,6 +79,13 @@ fn obey(arguments: &[&OsStr]) -> Option<io::Result<bool>> {
         }
         ("score", &[seed]) => write(&compose::generated(number(seed)?, &mut Mos6581::new())),
         ("listing", &[]) => print_listing(),
+        ("appends", &[seed]) => write(&append::seeded(number(seed)?).record()),
+        ("appended", &[seed]) => {
+            let calls = append::seeded(number(seed)?);
+            let answers = calls.answers(0, &mut Mos6581::new());
+            write(answers.lines.as_bytes())
+        }
+        ("text", &[seed]) => write(&lines::seeded(number(seed)?).0),
         _ => return None,
     })
 }

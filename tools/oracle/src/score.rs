@@ -31,8 +31,14 @@ pub struct Refused {
     place: usize,
 }
 
+impl Refused {
+    pub fn line(&self) -> String {
+        format!("refused {} at {}\n", self.number, self.place)
+    }
+}
+
 impl Event {
-    fn tag(self) -> u8 {
+    pub fn tag(self) -> u8 {
         match self {
             Event::Write { .. } => 0x01,
             Event::Read { .. } => 0x02,
@@ -47,7 +53,7 @@ impl Event {
     }
 
     /// What follows the stamp.
-    fn operands(self) -> Vec<u8> {
+    pub fn operands(self) -> Vec<u8> {
         match self {
             Event::Write { address, value } => vec![address, value],
             Event::Read { address } => vec![address],
@@ -66,6 +72,26 @@ impl Field {
         bytes.extend(operands);
         bytes
     }
+}
+
+pub fn write(stamp: u32, address: u8, value: u8) -> Field {
+    let event = Event::Write { address, value };
+    Field { stamp, event }
+}
+
+pub fn read(stamp: u32, address: u8) -> Field {
+    let event = Event::Read { address };
+    Field { stamp, event }
+}
+
+pub fn levels(stamp: u32) -> Field {
+    let event = Event::Levels;
+    Field { stamp, event }
+}
+
+pub fn end(stamp: u32) -> Field {
+    let event = Event::End;
+    Field { stamp, event }
 }
 
 pub fn bytes_of(fields: &[Field]) -> Vec<u8> {
@@ -153,7 +179,7 @@ pub fn clocks(score: &[u8]) -> u64 {
 pub fn listing(score: &[u8], chip: &mut Mos6581) -> String {
     match check(score) {
         Ok(fields) => play(&fields, chip),
-        Err(Refused { number, place }) => format!("refused {number} at {place}\n"),
+        Err(refused) => refused.line(),
     }
 }
 

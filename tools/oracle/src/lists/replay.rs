@@ -6,7 +6,8 @@
 
 use crate::compose::Composer;
 use crate::random::Random;
-use crate::score::{self, Event, Field, HEADER_BYTES, LATEST_STAMP, MOST_BYTES};
+use crate::score::{self, end, levels, read, write};
+use crate::score::{Field, HEADER_BYTES, LATEST_STAMP, MOST_BYTES};
 use crate::sid::constants::DATA_BUS_HOLD_CYCLES as HOLDS;
 use crate::sid::sid::Mos6581;
 
@@ -63,26 +64,6 @@ fn worked_example() -> Vec<u8> {
         read(12, 0x00),
         end(12),
     ])
-}
-
-fn write(stamp: u32, address: u8, value: u8) -> Field {
-    let event = Event::Write { address, value };
-    Field { stamp, event }
-}
-
-fn read(stamp: u32, address: u8) -> Field {
-    let event = Event::Read { address };
-    Field { stamp, event }
-}
-
-fn levels(stamp: u32) -> Field {
-    let event = Event::Levels;
-    Field { stamp, event }
-}
-
-fn end(stamp: u32) -> Field {
-    let event = Event::End;
-    Field { stamp, event }
 }
 
 fn accepted() -> Vec<Vec<u8>> {

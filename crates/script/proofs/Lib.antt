@@ -1,0 +1,4 @@
+pub mod Numbers
+pub mod Lines
+pub mod Ends
+pub mod Examples
