@@ -33,7 +33,7 @@ impl What {
         }
     }
 
-    // What the chip's processor makes one of in a clock.
+    // A write or read: the processor makes one in a clock.
     pub fn is_access(self) -> bool
         ensures { λ r. ⌜ r ≡ isAccess self ⌝ }
     {
