@@ -8,8 +8,8 @@
 #
 # A field a line, CLOCK decimal, ADDRESS, VALUE and CONTROL in hex; `#` after a space or at a line's start begins a
 # comment. A clock has one write or read: after a note the next one stands on CLOCK + 3 or later, and levels or an end
-# on CLOCK + 2 or later. The program `write` makes the bytes; what it refuses is told on standard error. Needs the Rattle
-# toolchain, sh, awk.
+# on CLOCK + 2 or later. The program `write` makes the bytes; what it refuses is told on standard error. Needs the
+# Rattle toolchain, sh, awk.
 set -eu
 export LC_ALL=C
 [ $# -eq 1 ] || { echo "usage: sh tools/score.sh TEXT > SCORE" >&2; exit 2; }

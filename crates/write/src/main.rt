@@ -1,6 +1,6 @@
-// Makes the score of a text of fields, which stands on standard input: write [SIZE], SIZE being the length of the buffer
-// that the writer is lent, 65,536 if none is given. What the first refused field is answered, or which line is no
-// field, is told alone.
+// Makes the score of a text of fields, which stands on standard input: write [SIZE], SIZE being the length of the
+// buffer that the writer is lent, 65,536 if none is given. What the first refused field is answered, or which line is
+// no field, is told alone.
 use script::LineRead;
 use writer::Appended;
 use writer::Writer;
@@ -8,8 +8,8 @@ use writer::Writer;
 // The most bytes that a score has: a longer buffer makes no other score.
 const MOST: usize = 65536;
 
-// No accepted score has a longer text: its fields take 9 bytes or fewer for 25 of the text. In a longer one a line
-// that comes before this length is refused, or is no field.
+// Enough to judge any text: fields that are all taken have at most 24 bytes of text for 9 of the score, 174,763 in all.
+// The line after them begins before that, and one that is cut here is too long for a field.
 const MOST_TEXT: usize = 196608;
 
 fn print_no_field(line: u64) {

@@ -51,7 +51,6 @@ unfolding buffered
 refused-alone l w f e = rw e
 
 -- nor does the writer move: it is as if the call had not been made
-
 pub refused-untried : (d : Writing) (f : Field) {r : Refusing} → answerTo d f ≡ Refused r → called d f ≡ d
 refused-untried d f e = rw e
 
@@ -188,7 +187,7 @@ written-again {s} {fs} small e l h =
 
 -- ---- after a refusal
 
--- after a refusal with 4 or 13, or any but 10, a field that is admitted and fits is taken, the refused one being as untried
+-- with 4 or 13, or any but 10: a field that is admitted and fits is taken, as if the refused one had not been tried
 pub shorter-taken
     : (d : Writing) (f g : Field) {why : Refusal} {o : Order}
     → answerTo d f ≡ refuse why (d .writer .at)

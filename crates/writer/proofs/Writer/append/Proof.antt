@@ -1,5 +1,5 @@
--- `Writer::append` puts a field's bytes at the place reached and gives the writer behind it, or refuses with 10, 8, 9, 14,
--- 4, 13, in that order, with the buffer as it was.
+-- `Writer::append` puts a field's bytes at the place reached and gives the writer behind it, or refuses with 10, 8, 9,
+-- 14, 4, 13, in that order, with the buffer as it was.
 use borrow.Author.Needs.{needs}
 use native.Mathlib.Omega.{arith}
 use Prim.Native.Nat.{_+_, _≤_}

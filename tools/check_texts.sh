@@ -1,0 +1,26 @@
+#!/bin/sh
+# The programs `fields` and `write` in target/bin: the bundled score is what its text makes, and the same again from the
+# text of its fields; what is refused, and a line that is no field, is told alone, for what comes first in the text.
+set -eu
+cd "$(dirname "$0")/.."
+status=0
+run() {
+  program=$1
+  shift
+  sh tools/run.sh "target/bin/$program" "$@"
+}
+# a name, what was said, what is due
+said() {
+  [ "$2" = "$3" ] || { echo "check_texts: $1: '$2', not '$3'"; status=1; }
+}
+
+sh tools/score.sh scores/first_light.txt | cmp - scores/first_light || status=1
+run fields < scores/first_light | run write | cmp - scores/first_light || status=1
+said 'a score cut' "$(dd if=crates/replay/stdin bs=38 count=1 2> /dev/null | run fields)" 'refused 12 at 38'
+said 'no score' "$(run fields < /dev/null)" 'refused 11 at 0'
+said 'after the end' "$(printf 'end 0\nend 0' | run write)" 'refused 10 at 7'
+said 'a stamp used' "$(printf 'levels 0\nwrite 0 0 1\nread 0 0\nend\n' | run write)" 'refused 14 at 16'
+said 'a byte short' "$(printf 'read 5 27\nend 5\n' | run write 14)" 'refused 13 at 8'
+said 'a leading zero' "$(printf 'levels 0\nend 00\nend 0\nend 0\n' | run write)" 'line 2 is no field'
+said 'no number' "$(printf 'end 0\n' | run write all 2>&1)" 'usage: write [SIZE] < TEXT'
+exit $status
