@@ -1,5 +1,5 @@
 -- Document 01, 'Numbers a caller can get back', as document 02 amends it: the number of each refusal, in their words.
--- Every promise of a number cites it.
+-- Every promise of a number cites it. Of 4, 8, 9, 10 and 14 the place is a check's; a writer's is the place reached.
 use Prim.Native.Nat.{ℕ}
 use Rattle.refusals.specs.declared.Refused.{Refused}
 use Rattle.refusals.specs.declared.Refusal.{Refusal}
