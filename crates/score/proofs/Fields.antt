@@ -75,15 +75,16 @@ module _ (s : List ℕ) (at : ℕ) {f : Field} {next : ℕ} where
       by-field s at (λ (r : FieldRead). r ≡ Got f next → Stands s at f next)
       (λ _. unread) (λ _ _. unread) (λ _ _ _. unread) (λ _ _ _ _. unread) (λ w g. record { whole = w; field = cc; ends = cc })
 
--- a known tag is one of four
-pub tags : (P : ℕ → Type 0) → P 0x01 → P 0x02 → P 0x03 → P 0x7f → (tag : ℕ) → (lenOf tag ≡ 0 → ⊥) → P tag
+-- a known tag is one of five
+pub tags : (P : ℕ → Type 0) → P 0x01 → P 0x02 → P 0x03 → P 0x04 → P 0x7f → (tag : ℕ) → (lenOf tag ≡ 0 → ⊥) → P tag
 unfolding lenOf
-tags P write read levels end tag =
+tags P write read levels watch end tag =
     let by = by-test (λ (n : ℕ). (n ≡ 0 → ⊥) → P tag) in
     by (eqb tag 0x01) 6 _ (λ t _. is 0x01 t write)
     (λ _. by (eqb tag 0x02) 5 _ (λ t _. is 0x02 t read)
     (λ _. by (eqb tag 0x03) 4 _ (λ t _. is 0x03 t levels)
-    (λ _. by (eqb tag 0x7f) 4 0 (λ t _. is 0x7f t end) (λ _ k. absurd (k refl)))))
+    (λ _. by (eqb tag 0x04) 4 _ (λ t _. is 0x04 t watch)
+    (λ _. by (eqb tag 0x7f) 4 0 (λ t _. is 0x7f t end) (λ _ k. absurd (k refl))))))
   where
     is : (n : ℕ) → eqb tag n ≡ true → P n → P tag
     is n t = subst P (sym (eqb-true tag n t))
@@ -94,13 +95,13 @@ module _ {s : List ℕ} {at : ℕ} (w : Whole s at) where
 
   pub whole-end : isEnd (valueAt s at .what) ≡ eqb (tagAt s at) 0x7f
   unfolding whatOf
-  whole-end = tags (λ (tag : ℕ). isEnd (whatOf tag (drop (at + 3) s)) ≡ eqb tag 0x7f) refl refl refl refl (tagAt s at) (w .known)
+  whole-end = tags (λ (tag : ℕ). isEnd (whatOf tag (drop (at + 3) s)) ≡ eqb tag 0x7f) refl refl refl refl refl (tagAt s at) (w .known)
 
   pub whole-access : isAccess (valueAt s at .what) ≡ accessAt s at
   unfolding whatOf
   whole-access =
-      tags (λ (tag : ℕ). isAccess (whatOf tag (drop (at + 3) s)) ≡ (eqb tag 0x01 || eqb tag 0x02)) refl refl refl refl (tagAt s at) (w .known)
+      tags (λ (tag : ℕ). isAccess (whatOf tag (drop (at + 3) s)) ≡ (eqb tag 0x01 || eqb tag 0x02)) refl refl refl refl refl (tagAt s at) (w .known)
 
   pub whole-four : 4 ≤ lenAt s at
   unfolding lenOf
-  whole-four = tags (λ (tag : ℕ). 4 ≤ lenOf tag) (omega arith) (omega arith) (omega arith) (omega arith) (tagAt s at) (w .known)
+  whole-four = tags (λ (tag : ℕ). 4 ≤ lenOf tag) (omega arith) (omega arith) (omega arith) (omega arith) (omega arith) (tagAt s at) (w .known)

@@ -12,7 +12,7 @@ use Rattle.score.specs.declared.Field.{Field}
 use Rattle.score.specs.declared.FieldRead.the-variants.{Got}
 use Rattle.score.specs.declared.Order.{Order}
 use Rattle.score.specs.declared.What.{What}
-use Rattle.score.specs.declared.What.the-variants.{Write, Read, Levels, End}
+use Rattle.score.specs.declared.What.the-variants.{Write, Read, Levels, Watch, End}
 use Rattle.score.specs.Fields.{lenOf, whatOf, stamped, valueOf, fieldAt, tagOf, restOf, written, allWritten}
 use Rattle.score.specs.Scores.{good, scoreOf, Chain, ends, goes}
 use Rattle.score.specs.Stamps.{unstamped, InOrder, closed, opened}
@@ -34,6 +34,7 @@ value-bytes v small =
     tags (λ (tag : ℕ). lenOf tag ≤ length v → Value tag v)
     (λ h. record { tag-is = refl; bytes = stamp (omega arith) ∙ rw (byte-first v 4 (omega arith), byte-first v 5 (omega arith)) })
     (λ h. record { tag-is = refl; bytes = stamp (omega arith) ∙ rw (byte-first v 4 (omega arith)) })
+    (λ h. record { tag-is = refl; bytes = stamp (omega arith) })
     (λ h. record { tag-is = refl; bytes = stamp (omega arith) })
     (λ h. record { tag-is = refl; bytes = stamp (omega arith) })
 
@@ -68,6 +69,7 @@ unfolding lenOf written bytesOf
 shape t (Write a v) = record { four = omega arith; six = omega arith; long = refl }
 shape t (Read a) = record { four = omega arith; six = omega arith; long = refl }
 shape t Levels = record { four = omega arith; six = omega arith; long = refl }
+shape t Watch = record { four = omega arith; six = omega arith; long = refl }
 shape t End = record { four = omega arith; six = omega arith; long = refl }
 
 module _ (ys : List ℕ) where
@@ -82,6 +84,7 @@ module _ (ys : List ℕ) where
   what-back t (Write a v) = rw (byte-number (value t (Write a v)) 4 (omega arith), byte-number (value t (Write a v)) 5 (omega arith))
   what-back t (Read a) = rw (byte-number (value t (Read a)) 4 (omega arith))
   what-back t Levels = refl
+  what-back t Watch = refl
   what-back t End = refl
 
   pub field-back : (s : List ℕ) (at : ℕ) (f : Field) → f .stamp < 2 ^ 32 → drop at s ≡ written f ++ ys → fieldAt s at ≡ Got f (at + length (written f))

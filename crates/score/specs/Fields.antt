@@ -12,11 +12,12 @@ use Rattle.score.specs.declared.Field.{Field}
 use Rattle.score.specs.declared.FieldRead.{FieldRead}
 use Rattle.score.specs.declared.FieldRead.the-variants.{Got, Refused}
 use Rattle.score.specs.declared.What.{What}
-use Rattle.score.specs.declared.What.the-variants.{Write, Read, Levels, End}
+use Rattle.score.specs.declared.What.the-variants.{Write, Read, Levels, Watch, End}
 
--- '0x01 write, length 6', '0x02 read, length 5', '0x03 levels, length 4', '0x7f end, length 4'; 0 of an unknown tag
+-- '0x01 write, length 6', '0x02 read, length 5', '0x03 levels, length 4', '0x7f end, length 4', and 02's '0x04, length
+-- 4, with a stamp'; 0 of an unknown tag
 unfoldable pub lenOf : ℕ → ℕ
-lenOf tag = cond (eqb tag 0x01) 6 (cond (eqb tag 0x02) 5 (cond (eqb tag 0x03) 4 (cond (eqb tag 0x7f) 4 0)))
+lenOf tag = cond (eqb tag 0x01) 6 (cond (eqb tag 0x02) 5 (cond (eqb tag 0x03) 4 (cond (eqb tag 0x04) 4 (cond (eqb tag 0x7f) 4 0))))
 
 abbrev pub stamped : ℕ → What → Field
 stamped stamp what = record { stamp = stamp; what = what }
@@ -25,7 +26,7 @@ stamped stamp what = record { stamp = stamp; what = what }
 unfoldable pub whatOf : ℕ → List ℕ → What
 whatOf tag v =
     cond (eqb tag 0x01) (Write (numberAt 1 v 4) (numberAt 1 v 5))
-    (cond (eqb tag 0x02) (Read (numberAt 1 v 4)) (cond (eqb tag 0x03) Levels End))
+    (cond (eqb tag 0x02) (Read (numberAt 1 v 4)) (cond (eqb tag 0x03) Levels (cond (eqb tag 0x04) Watch End)))
 
 abbrev pub valueOf : ℕ → List ℕ → Field
 valueOf tag v = stamped (numberAt 4 v 0) (whatOf tag v)
@@ -64,12 +65,14 @@ abbrev pub tagOf : What → ℕ
 tagOf (Write a v) = 0x01
 tagOf (Read a) = 0x02
 tagOf Levels = 0x03
+tagOf Watch = 0x04
 tagOf End = 0x7f
 
 abbrev pub isEnd : What → Bool
 isEnd (Write a v) = false
 isEnd (Read a) = false
 isEnd Levels = false
+isEnd Watch = false
 isEnd End = true
 
 -- document 02: 'a write or read'. No other field is an access
@@ -77,6 +80,7 @@ abbrev pub isAccess : What → Bool
 isAccess (Write a v) = true
 isAccess (Read a) = true
 isAccess Levels = false
+isAccess Watch = false
 isAccess End = false
 
 -- what follows the stamp
@@ -84,6 +88,7 @@ abbrev pub restOf : What → List ℕ
 restOf (Write a v) = a ∷ v ∷ []
 restOf (Read a) = a ∷ []
 restOf Levels = []
+restOf Watch = []
 restOf End = []
 
 -- a field's bytes

@@ -21,7 +21,7 @@ abbrev pub following : Order → Field → Order
 following o f = record { last = f .stamp; free = cond (isAccess (f .what)) (f .stamp + 1) (o .free) }
 
 -- document 02: 'a write or read must carry a stamp above that of the write or read before it'. 'Levels and the end may
--- share a stamp with anything'
+-- share a stamp with anything', and so may a watch: 'The field may share a stamp'
 abbrev pub used : Order → Field → Bool
 used o f = isAccess (f .what) && ltb (f .stamp) (o .free)
 

@@ -15,6 +15,7 @@ pub enum What {
     Write { address: u8, value: u8 },
     Read { address: u8 },
     Levels,
+    Watch,
     End,
 }
 
@@ -29,6 +30,7 @@ impl What {
             } => false,
             What::Read { address: _ } => false,
             What::Levels => false,
+            What::Watch => false,
             What::End => true,
         }
     }
@@ -44,6 +46,7 @@ impl What {
             } => true,
             What::Read { address: _ } => true,
             What::Levels => false,
+            What::Watch => false,
             What::End => false,
         }
     }
@@ -68,6 +71,7 @@ fn len_of(tag: u8) -> usize
         0x01 => 6,
         0x02 => 5,
         0x03 => 4,
+        0x04 => 4,
         0x7f => 4,
         _ => 0,
     }
@@ -86,6 +90,7 @@ fn what_of(tag: u8, v: &[u8]) -> What
             address: words::u8_at(v, 4),
         },
         0x03 => What::Levels,
+        0x04 => What::Watch,
         _ => What::End,
     }
 }

@@ -1,4 +1,5 @@
--- `len_of` gives the length of a tag's value: 6 for a write, 5 for a read, 4 for levels and end, 0 for an unknown tag.
+-- `len_of` gives the length of a tag's value: 6 for a write, 5 for a read, 4 for levels, watch and end, 0 for
+-- an unknown tag.
 use borrow.Author.Tests.{ne-eqb}
 use Rattle.score.specs.Fields.{lenOf}
 use Rattle.score.proofs.len_of.Statement.{statement}
@@ -22,7 +23,18 @@ returns-4 c = rw (c .match .keys4)
 
 returns-5 : tie.Need-returns-5
 unfolding lenOf
-returns-5 c = simp (ne-eqb _ _ (c .match .rest .1), ne-eqb _ _ (c .match .rest .0 .1), ne-eqb _ _ (c .match .rest .0 .0 .1), ne-eqb _ _ (c .match .rest .0 .0 .0 .1))
+returns-5 c = rw (c .match .keys5)
+
+returns-6 : tie.Need-returns-6
+unfolding lenOf
+returns-6 c =
+    simp (
+      ne-eqb _ _ (c .match .rest .1),
+      ne-eqb _ _ (c .match .rest .0 .1),
+      ne-eqb _ _ (c .match .rest .0 .0 .1),
+      ne-eqb _ _ (c .match .rest .0 .0 .0 .1),
+      ne-eqb _ _ (c .match .rest .0 .0 .0 .0 .1),
+    )
 
 pub len-of-spec : {M : Type 1} → statement M
-len-of-spec = tie.close (tie.spec returns returns-2 returns-3 returns-4 returns-5)
+len-of-spec = tie.close (tie.spec returns returns-2 returns-3 returns-4 returns-5 returns-6)

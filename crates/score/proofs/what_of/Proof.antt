@@ -28,9 +28,13 @@ returns-3 c = rw (c .match .keys3)
 
 returns-4 : tie.Need-returns-4
 unfolding whatOf
-returns-4 c = simp (ne-eqb _ _ (c .match .rest .1), ne-eqb _ _ (c .match .rest .0 .1), ne-eqb _ _ (c .match .rest .0 .0 .1))
+returns-4 c = rw (c .match .keys4)
+
+returns-5 : tie.Need-returns-5
+unfolding whatOf
+returns-5 c = simp (ne-eqb _ _ (c .match .rest .1), ne-eqb _ _ (c .match .rest .0 .1), ne-eqb _ _ (c .match .rest .0 .0 .1), ne-eqb _ _ (c .match .rest .0 .0 .0 .1))
 
 pub what-of-spec : {M : Type 1} → statement M
 what-of-spec =
     tie.close
-    (tie.spec u8-at-requires u8-at-requires-2 u8-at-requires-3 returns returns-2 returns-3 returns-4)
+    (tie.spec u8-at-requires u8-at-requires-2 u8-at-requires-3 returns returns-2 returns-3 returns-4 returns-5)
