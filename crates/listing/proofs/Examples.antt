@@ -3,7 +3,7 @@ use mathlib.Core.List.{[], _∷_}
 use mathlib.Core.Path.{_≡_, refl}
 use Rattle.refusals.specs.Refusals.{refused, told}
 use Rattle.refusals.specs.declared.Refusal.the-variants.{NoEnd}
-use Rattle.score.specs.declared.What.the-variants.{Write, End}
+use Rattle.score.specs.declared.What.the-variants.{Write, Watch, End}
 use Rattle.score.specs.Fields.{stamped}
 use Rattle.listing.specs.FieldText.{spacedNumber, wordOf, operands, fieldText, fieldLine}
 use Rattle.listing.specs.Text.{digits, decimal, hexDigit, hex2, hex3, opening, spaced, voice, readLine, levelsLine, endLine, refusedLine}
@@ -37,6 +37,11 @@ refused-11 = refl
 pub write-10 : fieldLine (stamped 10 (Write 24 129)) ≡ 119 ∷ 114 ∷ 105 ∷ 116 ∷ 101 ∷ 32 ∷ 49 ∷ 48 ∷ 32 ∷ 50 ∷ 52 ∷ 32 ∷ 49 ∷ 50 ∷ 57 ∷ 10 ∷ []
 unfolding fieldLine fieldText wordOf spacedNumber operands decimal digits
 write-10 = refl
+
+-- watch 10
+pub watch-10 : fieldLine (stamped 10 Watch) ≡ 119 ∷ 97 ∷ 116 ∷ 99 ∷ 104 ∷ 32 ∷ 49 ∷ 48 ∷ 10 ∷ []
+unfolding fieldLine fieldText wordOf spacedNumber operands decimal digits
+watch-10 = refl
 
 -- end 12
 pub end-12 : fieldLine (stamped 12 End) ≡ 101 ∷ 110 ∷ 100 ∷ 32 ∷ 49 ∷ 50 ∷ 10 ∷ []

@@ -186,6 +186,7 @@ fn put_word(out: &mut [u8], what: What) -> usize
         } => put_bytes(out, 0, b"write"),
         What::Read { address: _ } => put_bytes(out, 0, b"read"),
         What::Levels => put_bytes(out, 0, b"levels"),
+        What::Watch => put_bytes(out, 0, b"watch"),
         What::End => put_bytes(out, 0, b"end"),
     }
 }
@@ -202,6 +203,7 @@ fn put_operands(out: &mut [u8], at: usize, what: What) -> usize
         }
         What::Read { address } => put_spaced_number(out, at, address as usize),
         What::Levels => at,
+        What::Watch => at,
         What::End => at,
     }
 }

@@ -37,6 +37,9 @@ enum-told c = search needs
 enum-told-2 : tie.Need-enum-told-2
 enum-told-2 c = search needs
 
+enum-told-3 : tie.Need-enum-told-3
+enum-told-3 c = search needs
+
 same-length : tie.Need-same-length
 same-length c = search needs
 
@@ -59,6 +62,10 @@ returns-4 : tie.Need-returns-4
 unfolding operands
 returns-4 c = rw (c .enum-told2 .given .1) (record { place = omega arith; bytes = refl }, omega arith)
 
+returns-5 : tie.Need-returns-5
+unfolding operands
+returns-5 c = rw (c .enum-told3 .given .1) (record { place = omega arith; bytes = refl }, omega arith)
+
 pub put-operands-spec : {M : Type 1} → statement M
 put-operands-spec =
     tie.close
@@ -73,9 +80,11 @@ put-operands-spec =
     put-spaced-number-requires-3
     enum-told
     enum-told-2
+    enum-told-3
     same-length
     returns
     same-length-2
     returns-2
     returns-3
-    returns-4)
+    returns-4
+    returns-5)

@@ -41,6 +41,15 @@ slice-aggregate-put-bytes-4 c = search needs
 put-bytes-requires-4 : tie.Need-put-bytes-requires-4
 put-bytes-requires-4 c κs = search needs
 
+enum-told-5 : tie.Need-enum-told-5
+enum-told-5 c = search needs
+
+slice-aggregate-put-bytes-5 : tie.Need-slice-aggregate-put-bytes-5
+slice-aggregate-put-bytes-5 c = search needs
+
+put-bytes-requires-5 : tie.Need-put-bytes-requires-5
+put-bytes-requires-5 c κs = search needs
+
 same-length : tie.Need-same-length
 same-length c = search needs
 
@@ -69,6 +78,13 @@ returns-4 : tie.Need-returns-4
 unfolding wordOf
 returns-4 c = rw (c .before .before .before .before .before .enum-told4 .given .1) (c .before .before .put-bytes4 .ensures, omega (arith, c .before .before .put-bytes4 .ensures .place))
 
+same-length-5 : tie.Need-same-length-5
+same-length-5 c = search needs
+
+returns-5 : tie.Need-returns-5
+unfolding wordOf
+returns-5 c = rw (c .before .before .before .before .before .enum-told5 .given .1) (c .before .before .put-bytes5 .ensures, omega (arith, c .before .before .put-bytes5 .ensures .place))
+
 pub put-word-spec : {M : Type 1} → statement M
 put-word-spec =
     tie.close
@@ -85,6 +101,9 @@ put-word-spec =
     enum-told-4
     slice-aggregate-put-bytes-4
     put-bytes-requires-4
+    enum-told-5
+    slice-aggregate-put-bytes-5
+    put-bytes-requires-5
     same-length
     returns
     same-length-2
@@ -92,4 +111,6 @@ put-word-spec =
     same-length-3
     returns-3
     same-length-4
-    returns-4)
+    returns-4
+    same-length-5
+    returns-5)
