@@ -64,6 +64,7 @@ fn put_field(bytes: &mut [u8; MOST], f: Field) -> usize
             8
         }
         What::Levels => put_head(bytes, 0x03, 4, stamp),
+        What::Watch => put_head(bytes, 0x04, 4, stamp),
         What::End => put_head(bytes, 0x7f, 4, stamp),
     }
 }

@@ -26,6 +26,10 @@ fn field_of(bytes: &[u8]) -> Field {
             stamp,
             what: What::Levels,
         },
+        4 => Field {
+            stamp,
+            what: What::Watch,
+        },
         _ => Field {
             stamp,
             what: What::End,

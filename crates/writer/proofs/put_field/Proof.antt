@@ -39,6 +39,12 @@ enum-told-2 c = search needs
 put-head-requires-4 : tie.Need-put-head-requires-4
 put-head-requires-4 c κs = search needs
 
+enum-told-3 : tie.Need-enum-told-3
+enum-told-3 c = search needs
+
+put-head-requires-5 : tie.Need-put-head-requires-5
+put-head-requires-5 c κs = search needs
+
 returns : tie.Need-returns
 unfolding lenOf written bytesOf
 returns c = rw (c .before .before .before .what .given .1, c .put-head .ensures .bytes) (record { place = refl; bytes = refl })
@@ -55,6 +61,10 @@ returns-4 : tie.Need-returns-4
 unfolding lenOf written bytesOf
 returns-4 c = rw (c .before .before .enum-told2 .given .1) (c .put-head4 .ensures)
 
+returns-5 : tie.Need-returns-5
+unfolding lenOf written bytesOf
+returns-5 c = rw (c .before .before .enum-told3 .given .1) (c .put-head5 .ensures)
+
 pub put-field-spec : {M : Type 1} → statement M
 put-field-spec =
     tie.close
@@ -70,7 +80,10 @@ put-field-spec =
     put-head-requires-3
     enum-told-2
     put-head-requires-4
+    enum-told-3
+    put-head-requires-5
     returns
     returns-2
     returns-3
-    returns-4)
+    returns-4
+    returns-5)
