@@ -12,7 +12,7 @@ use borrow.Author.Tests.{ne-eqb, lt-leb, ltb-true, ltb-false}
 use Rattle.bytes.specs.Bytes.{indexOf, indexAfter}
 use Rattle.score.specs.declared.Field.{Field}
 use Rattle.score.specs.declared.What.{What}
-use Rattle.score.specs.declared.What.the-variants.{Write, Read, Levels, End}
+use Rattle.score.specs.declared.What.the-variants.{Write, Read, Levels, Watch, End}
 use Rattle.listing.specs.Text.{lineFeed, decimal, lastDigit}
 use Rattle.listing.specs.FieldText.{spacedNumber, wordOf, operands, fieldText, fieldLine}
 use Rattle.listing.proofs.Joins.{decimal-one, decimal-more}
@@ -67,6 +67,7 @@ unfolding wordOf
 plain-word (Write a v) = omega arith
 plain-word (Read a) = omega arith
 plain-word Levels = omega arith
+plain-word Watch = omega arith
 plain-word End = omega arith
 
 plain-operands : (w : What) → Plain (operands w)
@@ -74,6 +75,7 @@ unfolding operands
 plain-operands (Write a v) = plain-join (spacedNumber a) (spacedNumber v) (plain-spaced a) (plain-spaced v)
 plain-operands (Read a) = plain-spaced a
 plain-operands Levels = tt
+plain-operands Watch = tt
 plain-operands End = tt
 
 plain-text : (f : Field) → Plain (fieldText f)

@@ -13,7 +13,7 @@ use Rattle.laws.proofs.Cond.{by-test, either}
 use Rattle.bytes.specs.Bytes.{indexOf, slice}
 use Rattle.score.specs.declared.Field.{Field}
 use Rattle.score.specs.declared.What.{What}
-use Rattle.score.specs.declared.What.the-variants.{Write, Read, Levels, End}
+use Rattle.score.specs.declared.What.the-variants.{Write, Read, Levels, Watch, End}
 use Rattle.score.specs.Fields.{stamped}
 use Rattle.listing.specs.Text.{Put, lineFeed, decimal}
 use Rattle.listing.specs.FieldText.{spacedNumber, wordOf, operands, fieldText, fieldLine}
@@ -111,6 +111,9 @@ text-back t (Read a) h k =
 text-back t Levels h k =
     let l = fieldText (stamped t Levels) in
     bare-meant l 6 Levels (after-back l 6 32 t [] 0xffff_ffff refl refl (omega arith))
+text-back t Watch h k =
+    let l = fieldText (stamped t Watch) in
+    bare-meant l 5 Watch (after-back l 5 32 t [] 0xffff_ffff refl refl (omega arith))
 text-back t End h k =
     let l = fieldText (stamped t End) in
     bare-meant l 3 End (after-back l 3 32 t [] 0xffff_ffff refl refl (omega arith))
@@ -137,12 +140,13 @@ line-one o p = sym (meant-line o) ∙ meant-line p
 meant-fits : (l : List ℕ) → Fits (meant l)
 unfolding meant writeIn readIn bareIn
 meant-fits l =
-    by-test Fits (eqb (getD l 0 0) 119) _ _
+    by-test Fits (eqb (getD l 2 0) 105) _ _
     (λ _. record { stamp = omega (arith, after-within 0xffff_ffff l 5); what = (omega (arith, after-within 255 l (stampIn l 5 .next)), omega (arith, after-within 255 l (addressIn l 5 .next))) })
-    (λ _. by-test Fits (eqb (getD l 0 0) 114) _ _ (λ _. record { stamp = omega (arith, after-within 0xffff_ffff l 4); what = omega (arith, after-within 255 l (stampIn l 4 .next)) })
-    (λ _. either Fits (eqb (getD l 0 0) 108) _ _
-    (record { stamp = omega (arith, after-within 0xffff_ffff l 6); what = tt })
-    (record { stamp = omega (arith, after-within 0xffff_ffff l 3); what = tt })))
+    (λ _. by-test Fits (eqb (getD l 2 0) 97) _ _ (λ _. record { stamp = omega (arith, after-within 0xffff_ffff l 4); what = omega (arith, after-within 255 l (stampIn l 4 .next)) })
+    (λ _. by-test Fits (eqb (getD l 2 0) 118) _ _ (λ _. record { stamp = omega (arith, after-within 0xffff_ffff l 6); what = tt })
+    (λ _. either Fits (eqb (getD l 2 0) 116) _ _
+    (record { stamp = omega (arith, after-within 0xffff_ffff l 5); what = tt })
+    (record { stamp = omega (arith, after-within 0xffff_ffff l 3); what = tt }))))
 
 -- ---- what is answered of a line
 

@@ -8,7 +8,7 @@ use lib.ListN.{length, getD, drop}
 use Rattle.bytes.specs.Bytes.{indexOf}
 use Rattle.score.specs.declared.Field.{Field}
 use Rattle.score.specs.declared.What.{What}
-use Rattle.score.specs.declared.What.the-variants.{Write, Read, Levels, End}
+use Rattle.score.specs.declared.What.the-variants.{Write, Read, Levels, Watch, End}
 use Rattle.score.specs.Fields.{stamped}
 use Rattle.listing.specs.Text.{lineFeed}
 use Rattle.listing.specs.FieldText.{fieldLine}
@@ -28,6 +28,7 @@ abbrev pub FitsWhat : What → Type 0
 FitsWhat (Write a v) = (a < 256) × (v < 256)
 FitsWhat (Read a) = a < 256
 FitsWhat Levels = Unit
+FitsWhat Watch = Unit
 FitsWhat End = Unit
 
 pub record Fits (f : Field) : Type 0 where
@@ -69,13 +70,14 @@ readIn l = stamped (stampIn l 4 .value) (Read (addressIn l 4 .value))
 unfoldable pub bareIn : List ℕ → ℕ → What → Field
 bareIn l letters what = stamped (stampIn l letters .value) what
 
--- by the first letter: 119 is w, 114 r, 108 l
+-- by the third letter, in which all words differ: 105 is i, 97 a, 118 v, 116 t
 unfoldable pub meant : List ℕ → Field
 meant l =
-    cond (eqb (getD l 0 0) 119) (writeIn l)
-    (cond (eqb (getD l 0 0) 114) (readIn l)
-    (cond (eqb (getD l 0 0) 108) (bareIn l 6 Levels)
-    (bareIn l 3 End)))
+    cond (eqb (getD l 2 0) 105) (writeIn l)
+    (cond (eqb (getD l 2 0) 97) (readIn l)
+    (cond (eqb (getD l 2 0) 118) (bareIn l 6 Levels)
+    (cond (eqb (getD l 2 0) 116) (bareIn l 5 Watch)
+    (bareIn l 3 End))))
 
 -- r says whether two texts are the same
 abbrev pub Decides : Bool → List ℕ → List ℕ → Type 0

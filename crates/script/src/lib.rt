@@ -137,14 +137,15 @@ fn bare_in(line: &[u8], letters: usize, what: What) -> Field
     }
 }
 
-// The one field whose line this may be: nothing is checked but the first letter.
+// The one field whose line this may be: nothing is checked but the third letter, in which all words differ.
 fn meant(line: &[u8]) -> Field
     ensures { λ r. ⌜ r ≡ meant (now (line .entry)) ⌝ }
 {
-    match byte_at(line, 0) {
-        b'w' => write_in(line),
-        b'r' => read_in(line),
-        b'l' => bare_in(line, 6, What::Levels),
+    match byte_at(line, 2) {
+        b'i' => write_in(line),
+        b'a' => read_in(line),
+        b'v' => bare_in(line, 6, What::Levels),
+        b't' => bare_in(line, 5, What::Watch),
         _ => bare_in(line, 3, What::End),
     }
 }

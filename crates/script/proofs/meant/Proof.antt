@@ -1,4 +1,4 @@
--- `meant` gives the one field whose line a line may be, by the line's first letter.
+-- `meant` gives the one field whose line a line may be, by the line's third letter.
 use borrow.Author.Needs.{needs}
 use mathlib.Core.Path.{sym, _∙_}
 use borrow.Author.Tests.{ne-eqb}
@@ -21,6 +21,9 @@ bare-in-requires c κs = search needs
 bare-in-requires-2 : tie.Need-bare-in-requires-2
 bare-in-requires-2 c κs = search needs
 
+bare-in-requires-3 : tie.Need-bare-in-requires-3
+bare-in-requires-3 c κs = search needs
+
 returns : tie.Need-returns
 unfolding meant
 returns c = rw (sym (c .before .before .byte-at .ensures) ∙ c .before .match .keys1) (c .write-in .ensures)
@@ -35,7 +38,19 @@ returns-3 c = rw (sym (c .before .before .byte-at .ensures) ∙ c .before .match
 
 returns-4 : tie.Need-returns-4
 unfolding meant
-returns-4 c = rw (← c .before .before .byte-at .ensures) (simp (ne-eqb _ _ (c .before .match .rest .1), ne-eqb _ _ (c .before .match .rest .0 .1), ne-eqb _ _ (c .before .match .rest .0 .0 .1)) (c .bare-in2 .ensures))
+returns-4 c = rw (sym (c .before .before .byte-at .ensures) ∙ c .before .match .keys4) (c .bare-in2 .ensures)
+
+returns-5 : tie.Need-returns-5
+unfolding meant
+returns-5 c =
+    rw (← c .before .before .byte-at .ensures)
+    (simp (
+      ne-eqb _ _ (c .before .match .rest .1),
+      ne-eqb _ _ (c .before .match .rest .0 .1),
+      ne-eqb _ _ (c .before .match .rest .0 .0 .1),
+      ne-eqb _ _ (c .before .match .rest .0 .0 .0 .1),
+    )
+    (c .bare-in3 .ensures))
 
 pub meant-spec : {M : Type 1} → statement M
 meant-spec =
@@ -46,7 +61,9 @@ meant-spec =
     read-in-requires
     bare-in-requires
     bare-in-requires-2
+    bare-in-requires-3
     returns
     returns-2
     returns-3
-    returns-4)
+    returns-4
+    returns-5)
