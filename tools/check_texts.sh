@@ -20,6 +20,7 @@ said 'a score cut' "$(dd if=crates/replay/stdin bs=38 count=1 2> /dev/null | run
 said 'no score' "$(run fields < /dev/null)" 'refused 11 at 0'
 said 'after the end' "$(printf 'end 0\nend 0' | run write)" 'refused 10 at 7'
 said 'a stamp used' "$(printf 'levels 0\nwrite 0 0 1\nread 0 0\nend\n' | run write)" 'refused 14 at 16'
+said 'a watch between' "$(printf 'write 0 0 1\nwatch 0\nread 0 0\nend 0\n' | run write)" 'refused 14 at 16'
 said 'a byte short' "$(printf 'read 5 27\nend 5\n' | run write 14)" 'refused 13 at 8'
 said 'a leading zero' "$(printf 'levels 0\nend 00\nend 0\nend 0\n' | run write)" 'line 2 is no field'
 said 'no number' "$(printf 'end 0\n' | run write all 2>&1)" 'usage: write [SIZE] < TEXT'

@@ -2,14 +2,15 @@
 # A score from its text: sh tools/score.sh scores/NAME.txt > scores/NAME
 #
 #   CLOCK write ADDRESS VALUE       CLOCK levels
-#   CLOCK read ADDRESS              CLOCK end
+#   CLOCK read ADDRESS              CLOCK watch
+#                                   CLOCK end
 #   CLOCK note VOICE NAME CONTROL   three writes, one to a clock: the low byte of a note's frequency, as A4 or C#3, on
 #                                   CLOCK, the high byte on the next, and the voice's control with its gate on the third
 #
 # A field a line, CLOCK decimal, ADDRESS, VALUE and CONTROL in hex; `#` after a space or at a line's start begins a
-# comment. A clock has one write or read: after a note the next one stands on CLOCK + 3 or later, and levels or an end
-# on CLOCK + 2 or later. The program `write` makes the bytes; what it refuses is told on standard error. Needs the
-# Rattle toolchain, sh, awk.
+# comment. A clock has one write or read: after a note the next one stands on CLOCK + 3 or later, and levels, a watch or
+# an end on CLOCK + 2 or later. The program `write` makes the bytes; what it refuses is told on standard error. Needs
+# the Rattle toolchain, sh, awk.
 set -eu
 export LC_ALL=C
 [ $# -eq 1 ] || { echo "usage: sh tools/score.sh TEXT > SCORE" >&2; exit 2; }
@@ -52,7 +53,7 @@ fields=$(awk '
   $1 !~ /^[0-9]+$/ { fail("not a clock: " $1) }
   $2 == "write" { words(4); write($1, hex($3), hex($4)); next }
   $2 == "read" { words(3); field("read", $1, " " hex($3)); next }
-  $2 == "levels" || $2 == "end" { words(2); field($2, $1, ""); next }
+  $2 == "levels" || $2 == "watch" || $2 == "end" { words(2); field($2, $1, ""); next }
   $2 == "note" {
     words(5)
     if ($3 !~ /^[0-2]$/) fail("not a voice: " $3)
