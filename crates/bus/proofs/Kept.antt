@@ -15,7 +15,7 @@ use Rattle.laws.proofs.Cond.{either}
 use Rattle.laws.proofs.Table.{at}
 use Rattle.bus.specs.Bus.{holds, kept}
 
-cond-le : (b : Bool) (x : ℕ) → cond b x 0 ≤ x
+pub cond-le : (b : Bool) (x : ℕ) → cond b x 0 ≤ x
 cond-le b x = either (λ (m : ℕ). m ≤ x) b x 0 (omega arith) (omega arith)
 
 pub kept-le : (hs : List ℕ) (v n : ℕ) → kept hs v n ≤ v

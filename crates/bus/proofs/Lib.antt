@@ -5,3 +5,4 @@ pub mod Kept
 pub mod Lent
 pub mod Methods
 pub mod Walk
+pub mod Lost

@@ -1,7 +1,7 @@
--- `reset`, `drive`, `read_driven` and `clock` leave a lent bus as the core's function says, and `read_floating` gives
--- its byte. A walk goes through the method's MIR, which is written out here, and is held to the method's own where it
+-- `reset`, `drive`, `read_driven` and `clock` leave a lent bus as the core's function says, `clock` gives the bits that
+-- it lost, and `read_floating` the byte. A walk goes through the method's MIR, which is written out here, and is held to the method's own where it
 -- is cited. Assumes nothing.
-use mathlib.Core.Path.{_≡_, refl}
+use mathlib.Core.Path.{_≡_, refl, ap}
 use Prim.Native.Nat.{ℕ, _<_, _^_}
 use mathlib.Core.List.{List, [], _∷_}
 use lib.Dec.{T as Holds}
@@ -16,7 +16,7 @@ use prog.Routine.{Name, Env}
 use prog.Wp.{Heap, Closed, WpFn, Tables}
 use ghost.Atoms.{Atoms}
 use contract.Running.{GhostRules, Running, tables, tablesOf, givenOf}
-use types.Kit.{Go, Item, Given, ‵, _⊛_, _$_, _∵_, !, qed, by, move, keep, drop, split, join, fsplit, fsplit3, fjoin, fjoin3, feqI, suffices, frame, done}
+use types.Kit.{Go, Item, Given, ‵, _⊛_, _$_, _∵_, !, qed, by, move, keep, drop, rewrite, split, join, fsplit, fsplit3, fjoin, fjoin3, feqI, suffices, frame, done}
 use types.Run.{Opd, look, init, stop, hop, fld, from, load, unit-lit, of-opd, and-then, no-more, assigns, land, returns, enter, alloc1, alloc0, params1, pass1, pass0, free0}
 use types.Part.{whole, sub, store-in, look-in}
 use types.SemTy.{Body}
@@ -28,7 +28,7 @@ use denote.Plain.{uint-vals, uint-tells, uint-makes, nothing-makes}
 use denote.Builtin.{u8, unit}
 use denote.Ref.{MutRef, ShrRef, ptr-vals, mut-tells, shr-tells, now}
 use denote.Signature.{plain}
-use denote.Steps.{looks, shuts, owned, peeks, nothing}
+use denote.Steps.{looks, shuts, owned, peeks, nothing, only}
 use denote.Struct.Steps.{spelt}
 use denote.Struct.Laws as LL
 use denote.Triple.Statement.{Contract, Triple}
@@ -40,18 +40,22 @@ use denote.Triple.Table.{entered}
 use denote.Triple.Walked.{says, Stays, stay-ref, stay-none, stay-none-ref, walkOf, goes-none, goes-ref, goes-none-ref, ends-at}
 use denote.Exit.{yes}
 use Rattle.bus.specs.declared.InternalDataBus.{InternalDataBus}
-use Rattle.bus.specs.Bus.{fresh, driven, clocked}
+use Rattle.bus.specs.declared.BusClock.{BusClock}
+use Rattle.bus.specs.Bus.{fresh, driven, clocked, lost, busClock}
 use Rattle.bus.proofs.InternalDataBus as T
 use Rattle.bus.proofs.InternalDataBus.Laws as T′
+use Rattle.bus.proofs.BusClock as C
+use Rattle.bus.proofs.BusClock.Laws as C′
 use Rattle.bus.proofs.InternalDataBus.new as new
 use Rattle.bus.proofs.InternalDataBus.new.Symbol as new-def
 use Rattle.bus.proofs.InternalDataBus.new.Met as new-thm
 use Rattle.bus.proofs.InternalDataBus.driven as drive-core
 use Rattle.bus.proofs.InternalDataBus.driven.Symbol as driven-def
 use Rattle.bus.proofs.InternalDataBus.driven.Met as driven-thm
-use Rattle.bus.proofs.InternalDataBus.clocked as clock-core
-use Rattle.bus.proofs.InternalDataBus.clocked.Symbol as clocked-def
-use Rattle.bus.proofs.InternalDataBus.clocked.Met as clocked-thm
+use Rattle.bus.proofs.InternalDataBus.clock_lost as clock-core
+use Rattle.bus.proofs.InternalDataBus.clock_lost.Symbol as clock-lost-def
+use Rattle.bus.proofs.InternalDataBus.clock_lost.Met as clock-lost-thm
+use Rattle.bus.proofs.InternalDataBus.reset as reset
 use Rattle.bus.proofs.InternalDataBus.clock as clock
 use Rattle.bus.proofs.InternalDataBus.drive as drive
 use Rattle.bus.proofs.InternalDataBus.read_floating as read-floating
@@ -72,14 +76,14 @@ resetting = record {
   body = seq (call new-def.name [] (place 2 [])) (seq (assign (place 1 (deref T′.mir ∷ [])) (rvOpd (copy (place 2 [])))) (seq (assign (place 0 []) (rvOpd opdUnit)) return));
 }
 
--- `*self = InternalDataBus::clocked(*self);`
+-- `let after = InternalDataBus::clock_lost(*self); *self = after.bus; after.lost`
 abbrev clocking : Fn
 clocking = record {
   lifetimes = 1;
   outlives = [];
   params = 1;
-  locals = local tyUnit valueLocal ∷ local (self mut) valueLocal ∷ local T′.mir valueLocal ∷ local T′.mir valueLocal ∷ [];
-  body = seq (assign (place 3 []) (rvOpd (copy (place 1 (deref T′.mir ∷ []))))) (seq (call clocked-def.name (copy (place 3 []) ∷ []) (place 2 [])) (seq (assign (place 1 (deref T′.mir ∷ [])) (rvOpd (copy (place 2 [])))) (seq (assign (place 0 []) (rvOpd opdUnit)) return)));
+  locals = local (tyInt w8) valueLocal ∷ local (self mut) valueLocal ∷ local C′.mir valueLocal ∷ local T′.mir valueLocal ∷ [];
+  body = seq (assign (place 3 []) (rvOpd (copy (place 1 (deref T′.mir ∷ []))))) (seq (call clock-lost-def.name (copy (place 3 []) ∷ []) (place 2 [])) (seq (assign (place 1 (deref T′.mir ∷ [])) (rvOpd (copy (place 2 (field 0 ∷ []))))) (seq (assign (place 0 []) (rvOpd (copy (place 2 (field 1 ∷ []))))) return)));
 }
 
 -- `*self = InternalDataBus::driven(value); x`
@@ -103,8 +107,12 @@ reading = record {
 }
 
 -- ---- the types: what a method has of its parameters at exit
-abbrev stays : Stays (clock.ended .signature .params) (clock.ended .kept)
-stays = (stay-ref (0 ∷ []) tt (plain (λ _. T.the-row)), tt)
+module _ (R : RattleType) where
+  abbrev pub changes : Ended
+  changes = record { signature = record { lifetimes = 1; outlives = []; params = reset.signature .params; result = plain (λ _. R) }; kept = reset.ended .kept }
+
+  abbrev stays-changed : Stays (changes .signature .params) (changes .kept)
+  stays-changed = (stay-ref (0 ∷ []) tt (plain (λ _. T.the-row)), tt)
 
 abbrev stays-floating : Stays (read-floating.ended .signature .params) (read-floating.ended .kept)
 stays-floating = (stay-none-ref (0 ∷ []) tt (plain (λ _. T.the-row)) yes, tt)
@@ -116,6 +124,17 @@ module _ (R : RattleType) where
   abbrev stays-driven : Stays (drives .signature .params) (drives .kept)
   stays-driven = (stay-ref (0 ∷ []) tt (plain (λ _. T.the-row)), (stay-none (λ _. u8) yes, tt))
 
+-- ---- what `reset` and `clock` say of the bus h, of what they give and of the bus z that they leave
+abbrev pub Fresh : InternalDataBus → Unit {0} → InternalDataBus → Type 0
+Fresh h _ z = z ≡ fresh
+
+abbrev pub Clocked : InternalDataBus → ℕ → InternalDataBus → Type 0
+Clocked h u z = (u ≡ lost h) × (z ≡ clocked h)
+
+clocked-is : (h : InternalDataBus) (r : BusClock) → r ≡ busClock h → Clocked h (r .lost) (r .bus)
+unfolding busClock
+clocked-is h r e = (ap (λ (x : BusClock). x .lost) e, ap (λ (x : BusClock). x .bus) e)
+
 module _ {M : Type 1} (𝓤 : URA M) (H : Heap 𝓤) (𝓜 : Model 𝓤 H) (𝓖 : GhostRules 𝓤 H) (𝓡 : Running 𝓤 H 𝓜) where
   abbrev A : Atoms 𝓤
   A = 𝓖 .A
@@ -125,13 +144,13 @@ module _ {M : Type 1} (𝓤 : URA M) (H : Heap 𝓤) (𝓜 : Model 𝓤 H) (𝓖
 
   -- ---- the contracts
 
-  -- the bus h becomes g h
-  module _ (g : InternalDataBus → InternalDataBus) where
-    abbrev changing : Clauses 𝓤 clock.ended
-    changing = stating 𝓤 H A clock.ended (λ _ a _ e. now (e .0) ≡ g (now (a .0)))
+  -- of the bus h, of what is given and of the bus that is left, φ holds
+  module _ (R : RattleType) (φ : InternalDataBus → R .Denot → InternalDataBus → Type 0) where
+    abbrev changing : Clauses 𝓤 (changes R)
+    changing = stating 𝓤 H A (changes R) (λ _ a r e. φ (now (a .0)) r (now (e .0)))
 
     abbrev pub Changes : Contract 𝓤
-    Changes = Stating 𝓤 H A clock.ended (λ _ a _ e. now (e .0) ≡ g (now (a .0)))
+    Changes = Stating 𝓤 H A (changes R) (λ _ a r e. φ (now (a .0)) r (now (e .0)))
 
   -- of the value n, of what is given and of the bus that is left, φ holds
   module _ (R : RattleType) (φ : ℕ → R .Denot → InternalDataBus → Type 0) where
@@ -153,32 +172,32 @@ module _ {M : Type 1} (𝓤 : URA M) (H : Heap 𝓤) (𝓜 : Model 𝓤 H) (𝓖
   abbrev Driven : Contract 𝓤
   Driven = tripleOf 𝓤 H A drive-core.signature (drive-core.spec 𝓤 H A (𝓜 .mem) (𝓡 .run))
 
-  abbrev Clocked : Contract 𝓤
-  Clocked = tripleOf 𝓤 H A clock-core.signature (clock-core.spec 𝓤 H A (𝓜 .mem) (𝓡 .run))
+  abbrev ClockLost : Contract 𝓤
+  ClockLost = tripleOf 𝓤 H A clock-core.signature (clock-core.spec 𝓤 H A (𝓜 .mem) (𝓡 .run))
 
-  -- ---- reset and clock
-  module _ (g : InternalDataBus → InternalDataBus) where
+  -- ---- reset and clock give u, whose machine value is v
+  module _ (R : RattleType) (φ : InternalDataBus → R .Denot → InternalDataBus → Type 0) where
     module _ (κ : Lft) (q : Share) (b o : ℕ) (γ : GName) (h : InternalDataBus) where
-      abbrev to : walkOf 𝓤 H A clock.ended stays (changing g) .Ghost
+      abbrev to : walkOf 𝓤 H A (changes R) (stays-changed R) (changing R φ) .Ghost
       to = (((κ, tt), (q, tt), tt, (at b o γ h, tt), (vptr b o ∷ [], tt)), tt)
 
       abbrev Ends : Val → SProp 𝓤
-      Ends = walkOf 𝓤 H A clock.ended stays (changing g) .post to
+      Ends = walkOf 𝓤 H A (changes R) (stays-changed R) (changing R φ) .post to
 
-      exits : (r : InternalDataBus) → r ≡ g h → ent 𝓤 (sep 𝓤 (A .obs γ (T.the-row .coded .code r)) (sep 𝓤 (A .bor κ (Body (mem T.the-row) b o γ)) (A .lft κ q))) (Ends vunit)
-      exits r e =
+      exits : Makes 𝓤 H A R (Is R) → (u : R .Denot) (v : Val) (r : InternalDataBus) → φ h u r → Is R u (v ∷ []) → ent 𝓤 (sep 𝓤 (A .obs γ (T.the-row .coded .code r)) (sep 𝓤 (A .bor κ (Body (mem T.the-row) b o γ)) (A .lft κ q))) (Ends v)
+      exits makes u v r e is =
           qed W (‵ (fobs γ (T.the-row .coded .code r)) ∷ ‵ (fbor κ (Body (mem T.the-row) b o γ)) ∷ ‵ (flft κ q) ∷ []) ∵
-          suffices ! _ (ends-at 𝓤 H A clock.ended stays (changing g) W to vunit tt (r, tt) (tt, tt)) $ says ! e $ nothing ! $ move ! (3 ∷ 0 ∷ []) $ join ! $
-          frame ! $ feqI ! (List Val) (vptr b o ∷ []) (vptr b o ∷ []) refl $ fjoin3 ! $ nothing ! $ move ! (1 ∷ 0 ∷ []) $ fjoin ! $ feqI ! (List Val) (vunit ∷ []) (vunit ∷ []) refl $ move ! (1 ∷ 0 ∷ []) $ done !
+          suffices ! _ (ends-at 𝓤 H A (changes R) (stays-changed R) (changing R φ) W to v u (r, tt) (tt, tt)) $ says ! e $ nothing ! $ move ! (3 ∷ 0 ∷ []) $ join ! $
+          frame ! $ feqI ! (List Val) (vptr b o ∷ []) (vptr b o ∷ []) refl $ fjoin3 ! $ nothing ! $ move ! (1 ∷ 0 ∷ []) $ fjoin ! $ owned ! R (Is R) makes u _ is $ move ! (1 ∷ 0 ∷ []) $ done !
 
-    changes : (e : Fn) (𝓣 : Tables 𝓤 H)
-        → ((κ : Lft) (q : Share) (b o : ℕ) (γ : GName) (h : InternalDataBus) → ent 𝓤 (onEntry 𝓤 H A clock.signature (κ, tt) (q, tt) (at b o γ h, tt) (vptr b o ∷ [], tt)) (WpFn 𝓤 H (𝓣 .C) (𝓣 .Λ) e (vptr b o ∷ []) (Ends κ q b o γ h)))
-        → Triple 𝓤 (WpFn 𝓤 H (𝓣 .C) (𝓣 .Λ) e) (Changes g)
-    changes e 𝓣 walk = meets 𝓤 H A W clock.ended stays (changing g) e 𝓣 (goes-ref 𝓤 H A W 1 0 tt (plain (λ _. T.the-row)), tt) (λ κs. (ptr-vals, tt)) (λ κs. (mut-tells (named 0) (κs .0) T.the-row, tt))
+    changed : (e : Fn) (𝓣 : Tables 𝓤 H)
+        → ((κ : Lft) (q : Share) (b o : ℕ) (γ : GName) (h : InternalDataBus) → ent 𝓤 (onEntry 𝓤 H A (changes R .signature) (κ, tt) (q, tt) (at b o γ h, tt) (vptr b o ∷ [], tt)) (WpFn 𝓤 H (𝓣 .C) (𝓣 .Λ) e (vptr b o ∷ []) (Ends κ q b o γ h)))
+        → Triple 𝓤 (WpFn 𝓤 H (𝓣 .C) (𝓣 .Λ) e) (Changes R φ)
+    changed e 𝓣 walk = meets 𝓤 H A W (changes R) (stays-changed R) (changing R φ) e 𝓣 (goes-ref 𝓤 H A W 1 0 tt (plain (λ _. T.the-row)), tt) (λ κs. (ptr-vals, tt)) (λ κs. (mut-tells (named 0) (κs .0) T.the-row, tt))
         (λ κs qs bounds a _ _. walk (κs .0) (qs .0) (a .0 .ptr .0) (a .0 .ptr .1) (a .0 .name) (a .0 .now))
 
-  reset-walk : (𝓣 : Tables 𝓤 H) → Triple 𝓤 (𝓣 .C new-def.name) New → Triple 𝓤 (WpFn 𝓤 H (𝓣 .C) (𝓣 .Λ) resetting) (Changes (λ _. fresh))
-  reset-walk 𝓣 known = changes (λ _. fresh) resetting 𝓣 (λ κ q b o γ h.
+  reset-walk : (𝓣 : Tables 𝓤 H) → Triple 𝓤 (𝓣 .C new-def.name) New → Triple 𝓤 (WpFn 𝓤 H (𝓣 .C) (𝓣 .Λ) resetting) (Changes unit Fresh)
+  reset-walk 𝓣 known = changed unit Fresh resetting 𝓣 (λ κ q b o γ h.
       qed W ((‵ (flft κ q) ⊛ ‵ ftrue) ∷ ‵ (owns (MutRef (named 0) κ T.the-row ∷ []) (at b o γ h, tt) (vptr b o ∷ [], tt)) ∷ []) ∵ split ! $ move ! (2 ∷ []) $ fsplit ! $ fsplit3 ! $ drop ! $ move ! (0 ∷ 1 ∷ 3 ∷ []) $
       -- [obs; the borrow; the token; true; true]
       enter ! (𝓣 .C) (𝓣 .Λ) resetting (vptr b o ∷ []) _ $ alloc1 ! (λ l₀. alloc1 ! (λ l₁. alloc1 ! (λ l₂. alloc0 ! $ params1 ! $ pass1 ! (init ! 2 refl (tt, tt)) $ pass0 ! $
@@ -190,29 +209,32 @@ module _ {M : Type 1} (𝓤 : URA M) (H : Heap 𝓤) (𝓜 : Model 𝓤 H) (𝓖
       assigns ! (of-opd ! (load ! (from ! (stop !)) (look ! 6 refl))) (from ! (hop ! (look ! 8 refl) (stop !))) (store-in ! 0 (whole !) (fits W is)) $ closed ! tt b o is $
       -- [obs; the borrow; the token; true; true; _2; …; _1; …; room for _0; …]
       assigns ! (of-opd ! (unit-lit !)) (from ! (stop !)) (init ! 9 refl (tt, tt)) $ returns ! (look ! 9 refl) $
-      keep ! (9 ∷ 10 ∷ 7 ∷ 8 ∷ 5 ∷ 6 ∷ 0 ∷ 1 ∷ 2 ∷ []) $ freed ! $ freed ! $ freed ! $ free0 ! $ by ! (exits (λ _. fresh) κ q b o γ h r e))))))))
+      keep ! (9 ∷ 10 ∷ 7 ∷ 8 ∷ 5 ∷ 6 ∷ 0 ∷ 1 ∷ 2 ∷ []) $ freed ! $ freed ! $ freed ! $ free0 ! $ by ! (exits unit Fresh κ q b o γ h (nothing-makes 𝓤 H A W) tt _ r e refl))))))))
 
-  pub reset-meets : Met 𝓤 H 𝓜 𝓡 resetting new-def.name new-def.routine (Changes (λ _. fresh))
-  reset-meets = calling 𝓤 H 𝓜 𝓡 resetting new-def.name new-def.routine (Changes (λ _. fresh)) New (new-thm.met 𝓤 H 𝓜 𝓖 𝓡) reset-walk
+  pub reset-meets : Met 𝓤 H 𝓜 𝓡 resetting new-def.name new-def.routine (Changes unit Fresh)
+  reset-meets = calling 𝓤 H 𝓜 𝓡 resetting new-def.name new-def.routine (Changes unit Fresh) New (new-thm.met 𝓤 H 𝓜 𝓖 𝓡) reset-walk
 
-  clock-walk : (𝓣 : Tables 𝓤 H) → Triple 𝓤 (𝓣 .C clocked-def.name) Clocked → Triple 𝓤 (WpFn 𝓤 H (𝓣 .C) (𝓣 .Λ) clocking) (Changes clocked)
-  clock-walk 𝓣 known = changes clocked clocking 𝓣 (λ κ q b o γ h.
+  clock-walk : (𝓣 : Tables 𝓤 H) → Triple 𝓤 (𝓣 .C clock-lost-def.name) ClockLost → Triple 𝓤 (WpFn 𝓤 H (𝓣 .C) (𝓣 .Λ) clocking) (Changes u8 Clocked)
+  clock-walk 𝓣 known = changed u8 Clocked clocking 𝓣 (λ κ q b o γ h.
       qed W ((‵ (flft κ q) ⊛ ‵ ftrue) ∷ ‵ (owns (MutRef (named 0) κ T.the-row ∷ []) (at b o γ h, tt) (vptr b o ∷ [], tt)) ∷ []) ∵ split ! $ move ! (2 ∷ []) $ fsplit ! $ fsplit3 ! $ drop ! $ move ! (0 ∷ 1 ∷ 3 ∷ []) $
       enter ! (𝓣 .C) (𝓣 .Λ) clocking (vptr b o ∷ []) _ $ alloc1 ! (λ l₀. alloc1 ! (λ l₁. alloc1 ! (λ l₂. alloc1 ! (λ l₃. alloc0 ! $ params1 ! $ pass1 ! (init ! 4 refl (tt, tt)) $ pass0 ! $
       move ! (8 ∷ 9 ∷ 10 ∷ []) $ opened ! tt b o (λ was.
       -- [the bus; the open borrow; obs; auth; room for _3; …; room for _2; …; _1; …; room for _0; …]
       assigns ! (of-opd ! (load ! (from ! (hop ! (look ! 8 refl) (stop !))) (look ! 0 refl))) (from ! (stop !)) (init ! 4 refl (fits W was)) $
       asks ! (T.the-row ∷ []) (bus-makes 𝓤 H A, tt) (h, tt) (mach h ∷ [], tt) (was, tt) $
-      calls-at ! (fmOf 𝓤 H (W .laws) 𝓣) Clocked known ((tt, tt, tt, (h, tt), (mach h ∷ [], tt)), tt) (and-then ! (load ! (from ! (stop !)) (look ! 5 refl)) (no-more !)) (λ v.
-      answered ! tt v T.the-row (Unit {0} × Unit {0}) (‵ ftrue) (lasts clock-core.ended tt (h, tt)) (λ r _. r ≡ clocked h) (λ r _ is e. land ! (from ! (stop !)) (init ! 8 refl (fits W is)) $
-      -- [true; true; the bus; the open borrow; obs; auth; _3; …; _2; …; _1; …; room for _0; …]
-      assigns ! (of-opd ! (load ! (from ! (stop !)) (look ! 8 refl))) (from ! (hop ! (look ! 10 refl) (stop !))) (store-in ! 2 (whole !) (fits W is)) $ move ! (2 ∷ 3 ∷ 4 ∷ 5 ∷ []) $ closed ! tt b o is $
+      calls-at ! (fmOf 𝓤 H (W .laws) 𝓣) ClockLost known ((tt, tt, tt, (h, tt), (mach h ∷ [], tt)), tt) (and-then ! (load ! (from ! (stop !)) (look ! 5 refl)) (no-more !)) (λ v.
+      answered ! tt v C.the-row (Unit {0} × Unit {0}) (‵ ftrue) (lasts clock-core.ended tt (h, tt)) (λ r _. r ≡ busClock h) (λ r _ is e.
+      let parts = LL.owed C.the-type C′.the-laws r _ is in
+      land ! (from ! (stop !)) (init ! 8 refl (LL.lawful C.the-type C′.the-laws 𝓤 H A W .typed r _ is .0)) $
+      -- [true; true; the bus; the open borrow; obs; auth; _3; …; _2; …; _1; …; room for _0; …], and _2 by its fields
+      rewrite ! 8 (λ (y : Val). ‵ (fat fullShare C′.mir l₂ 0 y)) (ap only (LL.tells C.the-type C′.the-laws r _ is)) refl $
+      assigns ! (of-opd ! (load ! (from ! (fld ! refl (stop !))) (look-in ! 8 (sub ! 0 refl (whole !))))) (from ! (hop ! (look ! 10 refl) (stop !))) (store-in ! 2 (whole !) (fits W (parts .0))) $ move ! (2 ∷ 3 ∷ 4 ∷ 5 ∷ []) $ closed ! tt b o (parts .0) $
       -- [obs; the borrow; the token; true; true; _3; …; _2; …; _1; …; room for _0; …]
-      assigns ! (of-opd ! (unit-lit !)) (from ! (stop !)) (init ! 11 refl (tt, tt)) $ returns ! (look ! 11 refl) $
-      keep ! (11 ∷ 12 ∷ 9 ∷ 10 ∷ 7 ∷ 8 ∷ 5 ∷ 6 ∷ 0 ∷ 1 ∷ 2 ∷ []) $ freed ! $ freed ! $ freed ! $ freed ! $ free0 ! $ by ! (exits clocked κ q b o γ h r e)))))))))
+      assigns ! (of-opd ! (load ! (from ! (fld ! refl (stop !))) (look-in ! 7 (sub ! 1 refl (whole !))))) (from ! (stop !)) (init ! 11 refl (tt, record { fits = parts .1 .0 .1 })) $ returns ! (look ! 11 refl) $
+      keep ! (11 ∷ 12 ∷ 9 ∷ 10 ∷ 7 ∷ 8 ∷ 5 ∷ 6 ∷ 0 ∷ 1 ∷ 2 ∷ []) $ freed ! $ freed ! $ freed ! $ freed ! $ free0 ! $ by ! (exits u8 Clocked κ q b o γ h (uint-makes 𝓤 H A W w8) (r .lost) _ (r .bus) (clocked-is h r e) (refl, parts .1 .0 .1))))))))))
 
-  pub clock-meets : Met 𝓤 H 𝓜 𝓡 clocking clocked-def.name clocked-def.routine (Changes clocked)
-  clock-meets = calling 𝓤 H 𝓜 𝓡 clocking clocked-def.name clocked-def.routine (Changes clocked) Clocked (clocked-thm.met 𝓤 H 𝓜 𝓖 𝓡) clock-walk
+  pub clock-meets : Met 𝓤 H 𝓜 𝓡 clocking clock-lost-def.name clock-lost-def.routine (Changes u8 Clocked)
+  clock-meets = calling 𝓤 H 𝓜 𝓡 clocking clock-lost-def.name clock-lost-def.routine (Changes u8 Clocked) ClockLost (clock-lost-thm.met 𝓤 H 𝓜 𝓖 𝓡) clock-walk
 
   -- ---- drive and read_driven give u, whose machine value w is what x reads where the value's cell is the first of the context
   module _ (R : RattleType) (τ : Ty) (x : Operand) (φ : ℕ → R .Denot → InternalDataBus → Type 0) (u : ℕ → R .Denot) (w : ℕ → Val) (makes : Makes 𝓤 H A R (Is R))

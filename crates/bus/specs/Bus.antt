@@ -1,11 +1,12 @@
 -- The data bus: document 01, 'Data bus'; bus.rs.
-use Prim.Native.Nat.{ℕ, _+_, _*_, _-_, _/_, _%_, _^_, min}
+use Prim.Native.Nat.{ℕ, _+_, _*_, _-_, _/_, _%_, _^_, min, max}
 use mathlib.Core.List.{List, [], _∷_}
 use mathlib.Core.Bool.{cond}
 use lib.Dec.{ltb, eqb}
 use Rattle.laws.specs.Times.{times}
 use Rattle.bus.specs.declared.InternalDataBus.{InternalDataBus}
 use Rattle.bus.specs.declared.DrivenRead.{DrivenRead}
+use Rattle.bus.specs.declared.BusClock.{BusClock}
 
 -- 'The holds for bits 0 to 7' (DATA_BUS_HOLD_CYCLES)
 unfoldable pub holds : List ℕ
@@ -51,3 +52,15 @@ clocked b = cond (eqb (b .value) 0) b (aged b (min (b .age + 1) (2 ^ 32 - 1)))
 -- n clocks
 abbrev pub clocks : ℕ → InternalDataBus → InternalDataBus
 clocks n b = times n clocked b
+
+-- document 02, request 5, 'which bits it lost on this clock': the byte before it without the byte after it. A clock sets
+-- no bit, so that the difference has exactly the bits that went (`lost-bit`).
+unfoldable pub lost : InternalDataBus → ℕ
+lost b = b .value - clocked b .value
+
+unfoldable pub busClock : InternalDataBus → BusClock
+busClock b = record { bus = clocked b; lost = lost b }
+
+-- the clocks to the next one that may lose bits: any before it loses none (`none-lost`)
+unfoldable pub toExpiry : InternalDataBus → ℕ
+toExpiry b = cond (eqb (b .value) 0) noExpiry (max 1 (b .«next_expiry» - b .age))

@@ -4,7 +4,7 @@
 ghost use mathlib.Core.Path.{_≡_};
 ghost use Prim.Native.Nat.{_+_, _-_, _^_, _<_, min, max};
 ghost use lib.ListN.{getD};
-ghost use Rattle.bus.specs.Bus.{holds, kept, nextExpiry, fresh, driven, drivenRead, clocked};
+ghost use Rattle.bus.specs.Bus.{holds, kept, nextExpiry, fresh, driven, drivenRead, clocked, lost, busClock, toExpiry};
 
 pub struct InternalDataBus {
     pub value: u8,
@@ -15,6 +15,12 @@ pub struct InternalDataBus {
 pub struct DrivenRead {
     pub bus: InternalDataBus,
     pub byte: u8,
+}
+
+// What a clock gives: the bus after it, and the bits that it lost.
+pub struct BusClock {
+    pub bus: InternalDataBus,
+    pub lost: u8,
 }
 
 const DATA_BUS_HOLD_CYCLES: [u32; 8] = [12, 26624, 34816, 38912, 7680, 11264, 15360, 43008];
@@ -130,6 +136,29 @@ impl InternalDataBus {
             next_expiry: next_expiry_for(value, age),
         }
     }
+
+    pub fn clock_lost(self) -> BusClock
+        ensures { λ r. ⌜ r ≡ busClock self ⌝ }
+    {
+        let bus = self.clocked();
+        BusClock {
+            bus,
+            lost: self.value - bus.value,
+        }
+    }
+
+    // How many clocks on the next bits may go: none goes before.
+    pub fn to_expiry(self) -> u32
+        ensures { λ r. ⌜ r ≡ toExpiry self ⌝ }
+    {
+        if self.value == 0 {
+            return NO_EXPIRY;
+        }
+        if self.age < self.next_expiry {
+            return self.next_expiry - self.age;
+        }
+        1
+    }
 }
 
 // The bus where it stands.
@@ -159,10 +188,12 @@ impl InternalDataBus {
         self.value
     }
 
-    pub fn clock(&mut self)
-        ensures { λ _. ⌜ now (self .exit) ≡ clocked (now (self .entry)) ⌝ }
+    pub fn clock(&mut self) -> u8
+        ensures { λ r. ⌜ (r ≡ lost (now (self .entry))) × (now (self .exit) ≡ clocked (now (self .entry))) ⌝ }
     {
-        *self = InternalDataBus::clocked(*self);
+        let after = InternalDataBus::clock_lost(*self);
+        *self = after.bus;
+        after.lost
     }
 }
 
@@ -197,10 +228,10 @@ pub fn lent_read_floating(b: InternalDataBus) -> u8
     b.read_floating()
 }
 
-pub fn lent_clock(b: InternalDataBus) -> InternalDataBus
-    ensures { λ r. ⌜ r ≡ clocked b ⌝ }
+pub fn lent_clock(b: InternalDataBus) -> BusClock
+    ensures { λ r. ⌜ r ≡ busClock b ⌝ }
 {
     let mut x = b;
-    x.clock();
-    x
+    let lost = x.clock();
+    BusClock { bus: x, lost }
 }

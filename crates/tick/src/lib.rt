@@ -10,14 +10,16 @@ use sid::Voice;
 use tables::Filled;
 ghost use mathlib.Core.Path.{_≡_};
 ghost use lib.ListN.{length};
+ghost use Rattle.bus.specs.Bus.{lost};
 ghost use Rattle.tables.specs.Tables.{told};
 ghost use Rattle.sid.specs.Sid.{ticked, tickedBy};
 ghost use Rattle.pack.specs.Pack.{refusal, over};
 ghost use Rattle.tick.specs.Outputs.{outputs, packTicked};
 
-// What a tick gives: the chip after it, the codes and the levels of its voices.
+// What a tick gives: the chip after it, the bits that its data bus lost, the codes and the levels of its voices.
 pub struct Ticked {
     pub chip: Mos6581,
+    pub lost: u8,
     pub code_0: u16,
     pub code_1: u16,
     pub code_2: u16,
@@ -33,7 +35,7 @@ pub struct PackTicked {
 }
 
 pub fn tick(chip: Mos6581) -> Ticked
-    ensures { λ r. ⌜ r ≡ outputs (ticked chip) ⌝ }
+    ensures { λ r. ⌜ r ≡ outputs (lost (chip .«data_bus»)) (ticked chip) ⌝ }
 {
     let none = [0u16; 0];
     tick_over(chip, &none)
@@ -45,6 +47,7 @@ pub fn tick_packed(chip: Mos6581, pack: &[u16]) -> PackTicked
     if pack.len() != pack::LENGTH {
         let ticked = Ticked {
             chip,
+            lost: 0,
             code_0: chip.voice_0.oscillator.tone.last_sample,
             code_1: chip.voice_1.oscillator.tone.last_sample,
             code_2: chip.voice_2.oscillator.tone.last_sample,
@@ -68,7 +71,7 @@ pub fn tick_packed(chip: Mos6581, pack: &[u16]) -> PackTicked
 
 // Over a pack of any length: where it lacks the entry of a code, the code is settled afresh.
 pub fn tick_over(chip: Mos6581, pack: &[u16]) -> Ticked
-    ensures { λ r. ⌜ r ≡ outputs (tickedBy (over (now (pack .entry))) chip) ⌝ }
+    ensures { λ r. ⌜ r ≡ outputs (lost (chip .«data_bus»)) (tickedBy (over (now (pack .entry))) chip) ⌝ }
 {
     let mut data_bus = chip.data_bus;
     let control_0 = chip.voice_0.oscillator.control;
@@ -96,8 +99,11 @@ pub fn tick_over(chip: Mos6581, pack: &[u16]) -> Ticked
     let mut lines_2 = chip.voice_2.oscillator.bus.charge;
     let mut envelope_2 = chip.voice_2.envelope;
     // the bus
+    let mut lost: u8 = 0;
     if data_bus.value != 0 {
-        data_bus = bus::lent_clock(data_bus);
+        let clocked = bus::lent_clock(data_bus);
+        data_bus = clocked.bus;
+        lost = clocked.lost;
     }
     // the cycle
     let cycle = std::num::wrapping_add_u64(chip.cycle, 1);
@@ -289,6 +295,7 @@ pub fn tick_over(chip: Mos6581, pack: &[u16]) -> Ticked
     };
     Ticked {
         chip: after,
+        lost,
         code_0: tone_0.last_sample,
         code_1: tone_1.last_sample,
         code_2: tone_2.last_sample,

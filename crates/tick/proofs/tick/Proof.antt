@@ -7,7 +7,7 @@ use Rattle.tick.proofs.tick.Statement.{statement}
 use Rattle.tick.proofs.tick.Tie as tie
 
 returns : tie.Need-returns
-returns c = c .tick-over .ensures ∙ ap outputs (over-empty (c .before .before .args .chip))
+returns c = c .tick-over .ensures ∙ ap (outputs _) (over-empty (c .before .before .args .chip))
 
 pub tick-spec : {M : Type 1} → statement M
 tick-spec = tie.close (tie.spec (λ c. search needs) (λ c κs. search needs) returns)

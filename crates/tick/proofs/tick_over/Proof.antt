@@ -4,6 +4,9 @@
 use Rattle.sid.proofs.Ticks.{same-generator, same-lines}
 use Rattle.oscillator.proofs.Due.{loading-still}
 use Rattle.sid.proofs.Turn.{fades, empty, turn, judged, round}
+use Rattle.bus.specs.Bus.{busClock}
+use Rattle.bus.specs.declared.BusClock.{BusClock}
+use Rattle.bus.proofs.Lost.{empty-loses}
 use Rattle.laws.proofs.After.{taken, left}
 use Rattle.sid.specs.declared.Mos6581.{Mos6581}
 use Rattle.pack.specs.Pack.{loadedOver, over}
@@ -12,14 +15,14 @@ use Rattle.tick.specs.Outputs.{outputs}
 use Prim.Native.Nat.{ℕ}
 use mathlib.Core.List.{List}
 use mathlib.Core.Logic.{⊎-elim}
-use mathlib.Core.Path.{_∙_, ap}
+use mathlib.Core.Path.{_∙_, ap, ap₂, sym}
 use denote.Ref.{now}
 use borrow.Author.Needs.{needs}
 use Rattle.tick.proofs.tick_over.Statement.{statement}
 use Rattle.tick.proofs.tick_over.Tie as tie
 
 returns : tie.Need-returns
-unfolding outputs
+unfolding outputs busClock
 returns c =
     let pulls-2 = c .before .before .before in
     let couples-2 = pulls-2 .before .before in
@@ -107,9 +110,10 @@ returns c =
     (pulls-2 .before .pulls-down3 .ensures)
     (⊎-elim (λ w. taken (w .0 .taken) (same-generator (w .4) (w .5) (w .6) ∙ w .3 .ensures))
     (λ w. left (w .0 .left) (same-generator (w .1) (w .2) (w .3))) (pulls-2 .if22 .came)) in
-    ap outputs
+    ap₂ outputs
+    (⊎-elim (λ w. w .4 ∙ ap (λ (x : BusClock). x .lost) (w .1 .ensures)) (λ w. w .2 ∙ sym (empty-loses _ (w .0 .left))) (bus .if1 .came))
     (round (over pack) (start .cycle) (start .«voice_0») (start .«voice_1») (start .«voice_2»)
-    (⊎-elim (λ w. fades (w .2 ∙ w .1 .ensures)) (λ w. empty (w .0 .left) (w .1)) (bus .if1 .came))
+    (⊎-elim (λ w. fades (w .3 ∙ ap (λ (x : BusClock). x .bus) (w .1 .ensures))) (λ w. empty (w .0 .left) (w .1)) (bus .if1 .came))
     (cycle .wrapping-add-u64 .ensures) voice-0 voice-1 voice-2 (steps-2 .before .before .before .clocked3 .ensures)
     (judged (c .synced3 .ensures) (c .before .before .synced .ensures) (c .before .synced2 .ensures)))
 

@@ -24,7 +24,7 @@ returns-2 c =
     let args = c .before .before .before .args in
     let pack = now (args .pack) in
     let whole : length pack ≡ packLength = omega arith in
-    (rw (eq-eqb (length pack) packLength whole) (c .tick-over .ensures ∙ ap outputs (over-packed pack whole (args .chip))), right-length pack whole .0)
+    (rw (eq-eqb (length pack) packLength whole) (c .tick-over .ensures ∙ ap (outputs _) (over-packed pack whole (args .chip))), right-length pack whole .0)
 
 pub tick-packed-spec : {M : Type 1} → statement M
 tick-packed-spec = tie.close (tie.spec returns (λ c κs. search needs) returns-2)
