@@ -1,23 +1,25 @@
--- The fading byte for any run of calls, after a write, a driven read or a reset; a write to 0x15 and above moves the
--- bus alone. Assumes nothing.
+-- The fading byte for any run of calls, after a write, a driven read or a reset, and the bits of it that each tick
+-- reports lost; a write to 0x15 and above moves the bus alone. Assumes nothing.
 use mathlib.Core.Path.{_≡_, refl, ap, sym, _∙_}
 use mathlib.Core.Bool.{Bool, true, false, cond}
 use mathlib.Core.List.{List, [], _∷_}
-use Prim.Native.Nat.{ℕ, _/_, _<_}
+use Prim.Native.Nat.{ℕ, _/_, _%_, _^_, _<_}
 use native.Mathlib.Omega.{arith}
 use borrow.Author.Tests.{ne-eqb}
 use Rattle.laws.specs.Times.{times}
 use Rattle.laws.proofs.Times.{times-first}
-use Rattle.bus.specs.Bus.{holds, nextExpiry, fresh as Bus·fresh, driven, clocked as Bus·clocked, clocks as Bus·clocks}
+use Rattle.bus.specs.Bus.{holds, nextExpiry, fresh as Bus·fresh, driven, clocked as Bus·clocked, clocks as Bus·clocks, lost}
 use Rattle.bus.specs.declared.InternalDataBus.{InternalDataBus}
 use Rattle.bus.proofs.Fade.{byte-fades}
 use Rattle.bus.proofs.Kept.{kept-le}
+use Rattle.bus.proofs.Lost.{lost-at-hold}
 use Rattle.oscillator.specs.Ways.{stepwise}
 use Rattle.sid.specs.Sid.{register, reset, writtenTo, written, withBus, readAt, Call, write, read, tick, clear, potX, potY, calledBy, called, afterBy, after, clocksOf}
 use Rattle.sid.specs.declared.Mos6581.{Mos6581}
 use Rattle.sid.specs.declared.Read.{Read}
-use Rattle.calls.specs.Calls.{Each, none, next, floating, Unvoiced, undriven, Fades}
-use Rattle.calls.proofs.Voices.{tick-bus, read-floats, read-drives}
+use Rattle.sid.proofs.Ticks.{tick-bus}
+use Rattle.calls.specs.Calls.{Each, none, next, floating, Unvoiced, undriven, Fades, Loses}
+use Rattle.calls.proofs.Voices.{read-floats, read-drives}
 
 -- a bus that nothing drives sees the ticks alone
 pub bus-after : (calls : List Call) (c : Mos6581) → Each undriven calls → after calls c .«data_bus» ≡ Bus·clocks (clocksOf calls) (c .«data_bus»)
@@ -67,6 +69,28 @@ pub reset-clears
     → floating address ≡ true
     → readAt (after calls (reset c)) address .byte ≡ 0
 reset-clears c calls address r f = reset-fades c calls address r f ∙ omega (arith, kept-le holds 0 (clocksOf calls))
+
+-- ---- the bits that ticks report after a drive
+
+tick-loses : (v : ℕ) (c : Mos6581) → v < 256 → c .«data_bus» ≡ driven v → Loses v c
+tick-loses v c l e calls k r b =
+    ap (λ (x : InternalDataBus). lost x / 2 ^ k % 2) (bus-after calls c r ∙ ap (Bus·clocks (clocksOf calls)) e) ∙ lost-at-hold v (clocksOf calls) k l b
+
+pub write-loses : (c : Mos6581) (address v : ℕ) → v < 256 → Loses v (written c address v)
+unfolding written
+write-loses c address v l = tick-loses v (written c address v) l refl
+
+pub driven-read-loses
+    : (c : Mos6581) (address : ℕ)
+    → floating address ≡ false
+    → readAt c address .byte < 256
+    → Loses (readAt c address .byte) (readAt c address .chip)
+driven-read-loses c address d l = tick-loses (readAt c address .byte) (readAt c address .chip) l (read-drives c address d)
+
+-- after a reset there is nothing to lose
+pub reset-loses : (c : Mos6581) → Loses 0 (reset c)
+unfolding reset Bus·fresh driven nextExpiry holds
+reset-loses c = tick-loses 0 (reset c) (omega arith) refl
 
 -- ---- 'Writes to 0x15 to 0x18 therefore only drive the bus', and so do those above: voices and pots are as before
 

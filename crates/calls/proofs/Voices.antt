@@ -8,7 +8,7 @@ use lib.Dec.{eqb, ltb}
 use borrow.Author.Tests.{ne-eqb, ltb-true}
 use Rattle.laws.proofs.Bools.{implies}
 use Rattle.laws.proofs.Cond.{by-test, either}
-use Rattle.bus.specs.Bus.{driven, clocked as Bus·clocked}
+use Rattle.bus.specs.Bus.{driven}
 use Rattle.bus.specs.declared.InternalDataBus.{InternalDataBus}
 use Rattle.envelope.specs.Envelope.{clocked as Envelope·clocked, targetRefreshed, attackDecaySet, sustainReleaseSet, gateSet}
 use Rattle.envelope.specs.declared.Envelope.{Envelope}
@@ -47,10 +47,6 @@ pub tick-envelope : (ways : Ways) (w : Which) (c : Mos6581) → of w (tickedBy w
 tick-envelope ways w c =
     let t = tick-voice ways w c in
     ap (λ (v : Voice). v .envelope) (t .same) ∙ sync-envelope ways (t .taken) (of w c) (t .modulator) (nextCycle c)
-
-pub tick-bus : (ways : Ways) (c : Mos6581) → tickedBy ways c .«data_bus» ≡ Bus·clocked (c .«data_bus»)
-unfolding tickedBy synchronised voiced0By voiced1By voiced2By clockedBy
-tick-bus ways c = refl
 
 -- its cycle is the one that all of it saw
 pub tick-cycle : (ways : Ways) (c : Mos6581) → tickedBy ways c .cycle ≡ nextCycle c

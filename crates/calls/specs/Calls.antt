@@ -1,8 +1,8 @@
 -- Any run of calls (`after calls chip`), seen from one voice and from the bus: which calls a law allows in between, and
 -- what the laws say. Where they stand in proofs/:
 -- Lifted: demand 3 (`chip-demand-3`) and the sustained level (`chip-sustains`).
--- Fades: the fading byte (`write-fades`, `driven-read-fades`, `reset-clears`), writes that move no voice
--- (`write-only-drives`).
+-- Fades: the fading byte (`write-fades`, `driven-read-fades`, `reset-clears`), the bits lost on a tick (`write-loses`,
+-- `driven-read-loses`, `reset-loses`), writes that move no voice (`write-only-drives`).
 -- Floats: the floating code (`chip-floats`, `chip-floats-fresh`, `read-osc3-floats`).
 -- Latched: the code, OSC3 and ENV3 (`code-after-tick`, `read-osc3-after-tick`, `read-env3-after-tick`).
 -- Sound: facts that every call keeps (`call-sound`, `sound-fresh`).
@@ -12,14 +12,15 @@
 -- Runs: `run` among calls (`run-leads`, `run-calls`), and after it an envelope, the cycle, the byte, a floating code.
 use Prim.Native.Nat.{ℕ, suc, _+_, _-_, _/_, _%_, _^_, _<_, _≤_, max}
 use mathlib.Core.Path.{_≡_}
-use mathlib.Core.Bool.{Bool, true, false, not, _&&_, _||_}
+use mathlib.Core.Bool.{Bool, true, false, cond, not, _&&_, _||_}
 use mathlib.Core.List.{List, [], _∷_, _++_}
 use lib.Dec.{eqb, ltb}
+use lib.ListN.{getD}
 use Rattle.laws.specs.Cycle.{never}
 use Rattle.noise.specs.Noise.{shown as Noise·shown, stepsDue as Noise·stepsDue, Ahead as Noise·Ahead}
 use Rattle.floating.specs.Floating.{stepsDue as Floating·stepsDue, Ahead as Floating·Ahead}
 use Rattle.oscillator.specs.declared.Oscillator.{Oscillator}
-use Rattle.bus.specs.Bus.{holds, kept}
+use Rattle.bus.specs.Bus.{holds, kept, lost}
 use Rattle.release.specs.Release.{steps, landing, Needs}
 use Rattle.sid.specs.Sid.{register, readAt, Call, write, read, tick, clear, potX, potY, after, clocksOf, phaseOf, codeOf, levelOf, heldOf}
 use Rattle.sid.specs.declared.Voice.{Voice}
@@ -141,6 +142,13 @@ abbrev pub Fades : ℕ → Mos6581 → Type 0
 Fades v c =
     (calls : List Call) (address : ℕ) → Each undriven calls → floating address ≡ true
     → readAt (after calls c) address .byte ≡ kept holds v (clocksOf calls)
+
+-- The bits of v that a tick reports lost, after any calls with no drive or reset since v was driven (document 02, request
+-- 5): bit k on the tick whose number is its hold, and on no other
+abbrev pub Loses : ℕ → Mos6581 → Type 0
+Loses v c =
+    (calls : List Call) (k : ℕ) → Each undriven calls → k < 8
+    → lost (after calls c .«data_bus») / 2 ^ k % 2 ≡ cond (eqb (clocksOf calls + 1) (getD holds k 0)) (v / 2 ^ k % 2) 0
 
 -- a voice as calls from a fresh chip leave it (`latched-fresh`): OSC3 shows the code that it gives, which has 12 bits
 pub record Latched (v : Voice) : Type 0 where

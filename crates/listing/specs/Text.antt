@@ -68,9 +68,17 @@ spaced b = space ++ hex2 b
 unfoldable pub voice : ℕ → ℕ → List ℕ
 voice code level = space ++ (hex3 code ++ spaced level)
 
--- the room that a step of a player is given for its text: several lines, of which none has 64 bytes
+-- the room that a step of a player is given for its text: a line, after lines of bits that fade
 abbrev pub textRoom : ℕ
 textRoom = 512
+
+-- none of these has more bytes, a line of bits that fade
+abbrev pub fadeRoom : ℕ
+fadeRoom = 26
+
+-- and any other that `replay` prints
+abbrev pub lineRoom : ℕ
+lineRoom = 56
 
 -- 'R stamp address read'; 82 is R
 unfoldable pub readLine : ℕ → ℕ → ℕ → List ℕ
@@ -84,6 +92,10 @@ levelsLine stamp code0 level0 code1 level1 code2 level2 =
 -- 'E clocks'; 69 is E
 unfoldable pub endLine : ℕ → List ℕ
 endLine clocks = opening 69 clocks ++ lineFeed
+
+-- document 02, request 5: 'F clock bits (decimal, two hex digits)'; 70 is F
+unfoldable pub fadeLine : ℕ → ℕ → List ℕ
+fadeLine clock bits = opening 70 clock ++ (spaced bits ++ lineFeed)
 
 -- the word refused, and a space
 abbrev pub refusedWord : List ℕ

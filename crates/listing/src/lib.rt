@@ -7,10 +7,10 @@ ghost use mathlib.Core.Path.{_≡_};
 ghost use Prim.Native.Nat.{_+_, _≤_, _<_};
 ghost use lib.ListN.{length};
 ghost use Rattle.refusals.specs.Refusals.{told};
-ghost use Rattle.listing.specs.Text.{Put, fits, copied, one, decimal, hexDigit, hex2, hex3, opening, spaced, voice, textRoom, readLine, levelsLine, endLine, refusedLine};
+ghost use Rattle.listing.specs.Text.{Put, fits, copied, one, decimal, hexDigit, hex2, hex3, opening, spaced, voice, textRoom, fadeRoom, lineRoom, readLine, levelsLine, endLine, fadeLine, refusedLine};
 ghost use Rattle.listing.specs.FieldText.{spacedNumber, wordOf, operands, fieldLine};
 
-// Room for what a step prints: several lines, of which none has 64 bytes.
+// Room for what a step prints: a line, after lines of bits that fade.
 pub const TEXT: usize = 512;
 
 fn put(out: &mut [u8], at: usize, b: u8) -> usize
@@ -121,7 +121,7 @@ fn put_voice(out: &mut [u8], at: usize, code: u16, level: u8) -> usize
 }
 
 pub fn read_line(out: &mut [u8; TEXT], stamp: u32, address: u8, value: u8) -> usize
-    ensures { λ r. ⌜ Put (now (out .entry)) 0 (readLine stamp address value) r (now (out .exit)) × (r ≤ textRoom) ⌝ }
+    ensures { λ r. ⌜ Put (now (out .entry)) 0 (readLine stamp address value) r (now (out .exit)) × (r ≤ lineRoom) ⌝ }
 {
     let a = put_opening(out, b'R', stamp);
     let b = put_spaced(out, a, address);
@@ -139,7 +139,7 @@ pub fn levels_line(
     code_2: u16,
     level_2: u8,
 ) -> usize
-    ensures { λ r. ⌜ Put (now (out .entry)) 0 (levelsLine stamp «code_0» «level_0» «code_1» «level_1» «code_2» «level_2») r (now (out .exit)) × (r ≤ textRoom) ⌝ }
+    ensures { λ r. ⌜ Put (now (out .entry)) 0 (levelsLine stamp «code_0» «level_0» «code_1» «level_1» «code_2» «level_2») r (now (out .exit)) × (r ≤ lineRoom) ⌝ }
 {
     let a = put_opening(out, b'L', stamp);
     let b = put_voice(out, a, code_0, level_0);
@@ -149,14 +149,22 @@ pub fn levels_line(
 }
 
 pub fn end_line(out: &mut [u8; TEXT], clocks: u32) -> usize
-    ensures { λ r. ⌜ Put (now (out .entry)) 0 (endLine clocks) r (now (out .exit)) × (r ≤ textRoom) ⌝ }
+    ensures { λ r. ⌜ Put (now (out .entry)) 0 (endLine clocks) r (now (out .exit)) × (r ≤ lineRoom) ⌝ }
 {
     let a = put_opening(out, b'E', clocks);
     put(out, a, b'\n')
 }
 
+pub fn fade_line(out: &mut [u8; TEXT], clock: u32, bits: u8) -> usize
+    ensures { λ r. ⌜ Put (now (out .entry)) 0 (fadeLine clock bits) r (now (out .exit)) × (r ≤ fadeRoom) ⌝ }
+{
+    let a = put_opening(out, b'F', clock);
+    let b = put_spaced(out, a, bits);
+    put(out, b, b'\n')
+}
+
 pub fn refused_line(out: &mut [u8; TEXT], r: Refused) -> usize
-    ensures { λ len. ⌜ Put (now (out .entry)) 0 (refusedLine (told r)) len (now (out .exit)) × (len ≤ textRoom) ⌝ }
+    ensures { λ len. ⌜ Put (now (out .entry)) 0 (refusedLine (told r)) len (now (out .exit)) × (len ≤ lineRoom) ⌝ }
 {
     let why = r.why;
     let a = put_bytes(out, 0, b"refused ");

@@ -1,14 +1,23 @@
-// The panel that plays a score (document 01, 'Score and program'): a chip, and the clocks that it has run.
+// The panel that plays a score (document 01, 'Score and program'): a chip, the clocks that it has run, and whether the
+// bits that fade from its bus are watched (document 02, request 5).
 use sid::Answer;
 use sid::Mos6581;
 ghost use mathlib.Core.Path.{_≡_};
 ghost use Rattle.sid.specs.Sid.{told};
 ghost use Rattle.pack.specs.Pack.{over};
-ghost use Rattle.panel.specs.Panel.{fresh, ranToBy, written, readOf, levels, codeTold, levelTold, shownTold};
+ghost use Prim.Native.Nat.{_+_, _-_, min};
+ghost use Rattle.panel.specs.Panel.{fresh, ranToBy, leaptBy, watching, written, readOf, levels, codeTold, levelTold, shownTold};
 
 pub struct Panel {
     pub chip: Mos6581,
     pub clock: u32,
+    pub watched: bool,
+}
+
+// The panel after a leap, and the bits that its bus lost on the last clock of it.
+pub struct Leapt {
+    pub panel: Panel,
+    pub lost: u8,
 }
 
 pub struct PanelRead {
@@ -59,12 +68,28 @@ fn shown_by(chip: Mos6581, voice: u8) -> Shown
     Shown { code, level }
 }
 
+fn leap_end(clock: u32, stamp: u32, ahead: u32) -> u32
+    ensures { λ r. ⌜ r ≡ clock + min (stamp - clock) ahead ⌝ }
+{
+    if stamp <= clock {
+        return clock;
+    }
+    if stamp - clock <= ahead {
+        return stamp;
+    }
+    clock + ahead
+}
+
 impl Panel {
     pub fn new() -> Panel
         ensures { λ r. ⌜ r ≡ fresh ⌝ }
     {
         let chip = Mos6581::new();
-        Panel { chip, clock: 0 }
+        Panel {
+            chip,
+            clock: 0,
+            watched: false,
+        }
     }
 
     // A stamp that has gone by leaves the panel as it is. The codes of combined waveforms come from a lent pack.
@@ -75,9 +100,38 @@ impl Panel {
         if clock < stamp {
             let c = self.chip;
             let chip = run::run_over(c, (stamp - clock) as u64, pack);
-            return Panel { chip, clock: stamp };
+            return Panel {
+                chip,
+                clock: stamp,
+                watched: self.watched,
+            };
         }
         self
+    }
+
+    // To the stamp, or only to the next clock that may lose bits, where that comes first: no clock before it does.
+    pub fn leap_to(self, stamp: u32, pack: &[u16]) -> Leapt
+        ensures { λ r. ⌜ r ≡ leaptBy (over (now (pack .entry))) stamp self ⌝ }
+    {
+        let bus = self.chip.data_bus;
+        let end = leap_end(self.clock, stamp, bus.to_expiry());
+        let panel = self.run_to(end, pack);
+        let after = panel.chip.data_bus;
+        Leapt {
+            panel,
+            lost: bus.value - after.value,
+        }
+    }
+
+    pub fn watch(self) -> Panel
+        ensures { λ r. ⌜ r ≡ watching self ⌝ }
+    {
+        let chip = self.chip;
+        Panel {
+            chip,
+            clock: self.clock,
+            watched: true,
+        }
     }
 
     pub fn write(self, address: u8, value: u8) -> Panel
@@ -88,6 +142,7 @@ impl Panel {
         Panel {
             chip,
             clock: self.clock,
+            watched: self.watched,
         }
     }
 
@@ -100,6 +155,7 @@ impl Panel {
         let panel = Panel {
             chip,
             clock: self.clock,
+            watched: self.watched,
         };
         PanelRead {
             panel,

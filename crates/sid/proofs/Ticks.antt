@@ -1,12 +1,12 @@
 -- One tick of the chip, by any ways, out of its parts, which a loop may hold apart; ways that tick each voice alike tick
--- the chip alike (`chip-alike`), any number of times (`ticks-alike`) and in any run of calls (`after-alike`). Assumes
--- nothing.
+-- the chip alike (`chip-alike`), any number of times (`ticks-alike`) and in any run of calls (`after-alike`); ticks clock
+-- the bus, and nothing else in them moves it (`ticks-bus`). Assumes nothing.
 use mathlib.Core.Path.{_≡_, refl, ap, ap₂, sym, _∙_}
 use mathlib.Core.Bool.{Bool, true, false, cond}
 use mathlib.Core.List.{List, [], _∷_}
 use Prim.Native.Nat.{ℕ, zero, suc}
 use Rattle.laws.specs.Times.{times}
-use Rattle.bus.specs.Bus.{clocked as Bus·clocked}
+use Rattle.bus.specs.Bus.{clocked as Bus·clocked, clocks as Bus·clocks}
 use Rattle.bus.specs.declared.InternalDataBus.{InternalDataBus}
 use Rattle.envelope.specs.Envelope.{clocked as Envelope·clocked}
 use Rattle.envelope.specs.declared.Envelope.{Envelope}
@@ -139,6 +139,15 @@ chip-alike ways others c p q r =
     (voice-alike (c .«voice_0») cycle _ p
     ∙ ap (λ (m : ℕ). voicedBy others (clockedVoiceBy others (c .«voice_0») cycle) m cycle) (phase-alike ways others (c .«voice_2») cycle))
     (voice-alike (c .«voice_1») cycle _ q) (voice-alike (c .«voice_2») cycle _ r) _ _ _ refl refl refl
+
+pub tick-bus : (ways : Ways) (c : Mos6581) → tickedBy ways c .«data_bus» ≡ Bus·clocked (c .«data_bus»)
+unfolding tickedBy synchronised voiced0By voiced1By voiced2By clockedBy
+tick-bus ways c = refl
+
+pub ticks-bus : (ways : Ways) (n : ℕ) (c : Mos6581) → ticksBy ways n c .«data_bus» ≡ Bus·clocks n (c .«data_bus»)
+unfolding times
+ticks-bus ways zero c = refl
+ticks-bus ways (suc n) c = tick-bus ways (ticksBy ways n c) ∙ ap Bus·clocked (ticks-bus ways n c)
 
 -- ways that tick every chip alike do so any number of times
 pub ticks-alike

@@ -1,11 +1,10 @@
 -- `Panel::run_to` runs the clocks that the panel lacks of the stamp, and counts each; none where the stamp has gone by.
 use borrow.Author.Needs.{needs}
-use native.Mathlib.Nat.{add-zero}
 use native.Mathlib.Omega.{arith}
 use Prim.Native.Nat.{_+_, _-_}
-use mathlib.Core.Path.{_≡_}
-use Rattle.laws.specs.Times.{times}
+use mathlib.Core.Path.{_≡_, sym}
 use Rattle.panel.specs.Panel.{ranToBy}
+use Rattle.panel.proofs.Leaps.{ran-none}
 use Rattle.panel.proofs.Panel.run_to.Statement.{statement}
 use Rattle.panel.proofs.Panel.run_to.Tie as tie
 
@@ -26,11 +25,9 @@ returns c =
     rw e (simp (c .run-over .ensures))
 
 returns-2 : tie.Need-returns-2
-unfolding ranToBy times
 returns-2 c =
     let a = c .before .before .args in
-    let e : a .stamp - a .self .clock ≡ 0 = omega arith in
-    rw (e, add-zero)
+    sym (ran-none _ (a .self) (a .stamp) (omega arith))
 
 pub run-to-spec : {M : Type 1} → statement M
 run-to-spec = tie.close (tie.spec sub-run-over cast-run-over run-over-requires returns returns-2)
