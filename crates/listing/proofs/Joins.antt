@@ -34,6 +34,18 @@ take-put {l} {xs} {r} o h =
     let q : r ≡ length xs = omega (arith, o .place) in
     rw (o .bytes, q, sets-eq xs l 0 (omega arith)) (take-at xs (drop (0 + length xs) l) (length xs) refl)
 
+-- it stands where it is copied to, too
+pub put-copied
+    : {l xs : List ℕ} {len : ℕ} {m : List ℕ}
+    → Put l 0 xs len m
+    → len ≤ length l
+    → (out : List ℕ) (at : ℕ)
+    → at + len ≤ length out
+    → Put out at xs (at + len) (copied out at (take len m))
+put-copied {l} {xs} {len} o h out at room =
+    let e : len ≡ length xs = omega (arith, o .place) in
+    rw (take-put o h) (record { place = omega arith; bytes = simp (le-leb (at + length xs) (length out) (omega arith)) })
+
 -- one byte more of w
 pub sets-more
     : (l w out : List ℕ) (at i : ℕ)

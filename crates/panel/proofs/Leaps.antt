@@ -8,16 +8,16 @@ use mathlib.Core.Bool.{Bool, true, false, cond}
 use mathlib.Core.Path.{_≡_, refl, ap, ap₂, sym, _∙_}
 use lib.Dec.{eqb}
 use Rattle.laws.specs.Times.{times}
-use Rattle.laws.proofs.Times.{times-add, times-first}
-use Rattle.bus.specs.Bus.{noExpiry, clocks, lost, toExpiry}
+use Rattle.laws.proofs.Times.{times-add}
+use Rattle.bus.specs.Bus.{noExpiry, clocked, clocks, lost, toExpiry}
 use Rattle.bus.specs.declared.InternalDataBus.{InternalDataBus}
-use Rattle.bus.proofs.Lost.{clocks-le, none-lost}
+use Rattle.bus.proofs.Lost.{clocks-le, none-lost, ones, lost-fewer}
 use Rattle.oscillator.specs.Ways.{Ways}
 use Rattle.sid.specs.declared.Mos6581.{Mos6581}
 use Rattle.sid.specs.Sid.{tickedBy, ticksBy}
 use Rattle.sid.proofs.Ticks.{ticks-bus}
 use Rattle.panel.specs.declared.Panel.{Panel}
-use Rattle.panel.specs.Panel.{busOf, clockedBy, ranToBy, leap, leaptBy}
+use Rattle.panel.specs.Panel.{busOf, ranToBy, leap, leaptBy}
 
 -- a panel n clocks on
 abbrev on : Panel → Mos6581 → ℕ → Panel
@@ -49,6 +49,10 @@ module _ (w : Ways) (p : Panel) where
       (ap (λ (n : ℕ). ticksBy w n (ticksBy w a (p .chip))) b
       ∙ (times-add (tickedBy w) (later - stamp) a (p .chip) ∙ ap (λ (n : ℕ). ticksBy w n (p .chip)) e))
       (omega arith)
+
+clocks-more : (n : ℕ) (b : InternalDataBus) → clocks (suc n) b ≡ clocked (clocks n b)
+unfolding times
+clocks-more n b = refl
 
 -- the next clock at the earliest
 ahead : (b : InternalDataBus) → 1 ≤ toExpiry b
@@ -94,6 +98,22 @@ module _ (w : Ways) (stamp : ℕ) (p : Panel) where
       let after : busOf (leaptBy w stamp p .panel) .value ≡ clocks (suc n) (busOf p) .value =
       ap (λ (b : InternalDataBus). b .value) leapt-bus ∙ ap (λ (k : ℕ). clocks k (busOf p) .value) (sym e) in
       omega (arith, after, leap-value n (omega arith))
+
+  -- a leap that loses bits leaves fewer
+  pub leap-fewer
+      : p .clock < stamp
+      → busOf p .value < 256
+      → ones 8 (busOf (leaptBy w stamp p .panel) .value) + cond (eqb (leaptBy w stamp p .lost) 0) 0 1 ≤ ones 8 (busOf p .value)
+  leap-fewer h k = go (leap stamp p) refl
+    where
+      go : (d : ℕ) → leap stamp p ≡ d → ones 8 (busOf (leaptBy w stamp p .panel) .value) + cond (eqb (leaptBy w stamp p .lost) 0) 0 1 ≤ ones 8 (busOf p .value)
+      go zero e = absurd (omega (arith, leap-more h))
+      go (suc n) e =
+          let b = clocks n (busOf p) in
+          let same : b .value ≡ busOf p .value = leap-value n (omega arith) in
+          let after : busOf (leaptBy w stamp p .panel) .value ≡ clocked b .value =
+          ap (λ (z : InternalDataBus). z .value) (leapt-bus ∙ (ap (λ (k : ℕ). clocks k (busOf p)) e ∙ clocks-more n (busOf p))) in
+          rw (after, leap-lost n (sym e)) (omega (arith, lost-fewer b (omega (arith, same)), ap (ones 8) same))
 
   pub leapt-le : busOf (leaptBy w stamp p .panel) .value ≤ busOf p .value
   leapt-le = omega (arith, ap (λ (b : InternalDataBus). b .value) leapt-bus, clocks-le (leap stamp p) (busOf p))

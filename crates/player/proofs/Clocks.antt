@@ -12,7 +12,7 @@ use Rattle.panel.specs.Panel.{fresh, ranTo, ranToBy, readOf}
 use Rattle.score.specs.declared.Field.{Field}
 use Rattle.score.specs.declared.Order.{Order}
 use Rattle.score.specs.declared.What.{What}
-use Rattle.score.specs.declared.What.the-variants.{Write, Read, Levels, End}
+use Rattle.score.specs.declared.What.the-variants.{Write, Read, Levels, Watch, End}
 use Rattle.score.specs.Fields.{isEnd}
 use Rattle.score.specs.Scores.{good, scoreOf, clocksOf as Scores·clocksOf, Chain, ends, goes}
 use Rattle.score.proofs.Chains.{score-chain}
@@ -22,13 +22,14 @@ use Rattle.calls.proofs.Leaks.{clocks-as-01}
 use Rattle.sid.specs.Sid.{fresh as Sid·fresh, Call, calledBy, afterBy, after, clocksOf}
 use Rattle.sid.proofs.Joined.{after-ticks, count-ticks}
 use Rattle.player.specs.ScoreCalls.{callThen, callsTo}
-use Rattle.player.specs.Listing.{lineOf, doneBy, atStamp, play, playBy, played, playedBy, listing, listingBy}
+use Rattle.player.specs.Listing.{lineOf, doneBy, atStamp, watched, textBy, play, playBy, played, playedBy, listing, listingBy}
 
 after-call : (w : What) (calls : List Call) (p : Panel) → after (callThen w calls) (p .chip) ≡ after calls (doneBy w p .chip)
 unfolding afterBy calledBy doneBy readOf
 after-call (Write a v) calls p = refl
 after-call (Read a) calls p = refl
 after-call Levels calls p = refl
+after-call Watch calls p = refl
 after-call End calls p = refl
 
 count-call : (w : What) (calls : List Call) → clocksOf (callThen w calls) ≡ clocksOf calls
@@ -36,6 +37,7 @@ unfolding clocksOf
 count-call (Write a v) calls = refl
 count-call (Read a) calls = refl
 count-call Levels calls = refl
+count-call Watch calls = refl
 count-call End calls = refl
 
 clock-done : (w : What) (p : Panel) → doneBy w p .clock ≡ p .clock
@@ -43,6 +45,7 @@ unfolding doneBy readOf
 clock-done (Write a v) p = refl
 clock-done (Read a) p = refl
 clock-done Levels p = refl
+clock-done Watch p = refl
 clock-done End p = refl
 
 module _ (stamp : ℕ) where
@@ -113,6 +116,7 @@ pub record Meets (xs : List Field) (f : Field) : Type 0 where
   pub chip : atStamp f (played xs fresh) .chip ≡ afterBy afresh (callsTo 0 xs (f .stamp)) Sid·fresh
   pub ticks : clocksOf (callsTo 0 xs (f .stamp)) ≡ f .stamp
   pub clock : atStamp f (played xs fresh) .clock ≡ f .stamp
+  pub not-over : f .stamp ≤ 100000000
 
 pub stamp-clocks : (s : List ℕ) (xs : List Field) (f : Field) (ys : List Field) → scoreOf s ≡ good (xs ++ (f ∷ ys)) → Meets xs f
 stamp-clocks s xs f ys e =
@@ -123,6 +127,7 @@ stamp-clocks s xs f ys e =
       chip = chip-called (f .stamp) xs fresh ∙ clocks-as-01 calls (omega (arith, ticks, finds .not-over));
       ticks = ticks;
       clock = finds .clock;
+      not-over = finds .not-over;
     }
 
 end-line : (t : ℕ) (w : What) (p : Panel) → isEnd w ≡ true → lineOf t w p ≡ endLine (p .clock)
@@ -130,6 +135,7 @@ unfolding lineOf
 end-line t (Write a v) p i = let z : _≡_ {A = ℕ} 0 1 = cc in absurd (omega arith)
 end-line t (Read a) p i = let z : _≡_ {A = ℕ} 0 1 = cc in absurd (omega arith)
 end-line t Levels p i = let z : _≡_ {A = ℕ} 0 1 = cc in absurd (omega arith)
+end-line t Watch p i = let z : _≡_ {A = ℕ} 0 1 = cc in absurd (omega arith)
 end-line t End p i = refl
 
 -- the lines end with `E n`, and the panel has then run n clocks
@@ -148,15 +154,21 @@ unfolding playBy playedBy
 closes (ends {f = f} e a i) p k =
     let q = atStamp f p in
     let c = ran-clock (admits a) p k in
-    rw i (record { before = []; text-is = append-nil (lineOf (f .stamp) (f .what) q) ∙ (end-line (f .stamp) (f .what) q i ∙ ap endLine c); clock = clock-done (f .what) q ∙ c })
+    let way = watched (f .stamp) p in
+    rw i
+    (record {
+      before = way;
+      text-is = append-nil (textBy stepwise f p) ∙ ap (λ (line : List ℕ). way ++ line) (end-line (f .stamp) (f .what) q i ∙ ap endLine c);
+      clock = clock-done (f .what) q ∙ c;
+    })
 closes (goes {f = f} {fs = fs} e a i r) p k =
     let q = atStamp f p in
-    let line = lineOf (f .stamp) (f .what) q in
+    let text = textBy stepwise f p in
     let c = closes r (doneBy (f .what) q) (clock-done (f .what) q ∙ (ran-clock (admits a) p k ∙ sym (admits a .is-last))) in
     rw i
     (record {
-      before = line ++ c .before;
-      text-is = ap (λ (x : List ℕ). line ++ x) (c .text-is) ∙ sym (append-assoc line (c .before) (endLine (Scores·clocksOf fs)));
+      before = text ++ c .before;
+      text-is = ap (λ (x : List ℕ). text ++ x) (c .text-is) ∙ sym (append-assoc text (c .before) (endLine (Scores·clocksOf fs)));
       clock = c .clock;
     })
 

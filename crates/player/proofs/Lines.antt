@@ -8,10 +8,11 @@ use Rattle.panel.specs.declared.Panel.{Panel}
 use Rattle.panel.specs.Panel.{fresh, readOf, levels}
 use Rattle.score.specs.declared.Field.{Field}
 use Rattle.score.specs.declared.What.{What}
-use Rattle.score.specs.declared.What.the-variants.{Write, Read, Levels, End}
+use Rattle.score.specs.declared.What.the-variants.{Write, Read, Levels, Watch, End}
 use Rattle.score.specs.Scores.{good, scoreOf}
 use Rattle.player.specs.ScoreCalls.{shownBy, Shows}
-use Rattle.player.specs.Listing.{lineOf, doneBy, atStamp, play, playBy, played, playedBy, listingOf, listing, listingBy}
+use Rattle.oscillator.specs.Ways.{stepwise}
+use Rattle.player.specs.Listing.{lineOf, doneBy, atStamp, watched, textBy, play, playBy, played, playedBy, listingOf, listing, listingBy}
 use Rattle.player.proofs.Clocks.{stamp-clocks}
 
 -- the lines of fields, and of fields after them
@@ -21,8 +22,8 @@ play-join [] ys p = refl
 play-join (x ∷ xs) ys p =
     let q = atStamp x p in
     let r = doneBy (x .what) q in
-    let line = lineOf (x .stamp) (x .what) q in
-    ap (λ (text : List ℕ). line ++ text) (play-join xs ys r) ∙ sym (append-assoc line (play xs r) (play ys (played xs r)))
+    let text = textBy stepwise x p in
+    ap (λ (rest : List ℕ). text ++ rest) (play-join xs ys r) ∙ sym (append-assoc text (play xs r) (play ys (played xs r)))
 
 -- a line shows the panel's chip
 line-shown : (t : ℕ) (w : What) (p : Panel) → p .clock ≡ t → lineOf t w p ≡ shownBy t w (p .chip)
@@ -30,6 +31,7 @@ unfolding lineOf shownBy readOf levels
 line-shown t (Write a v) p k = refl
 line-shown t (Read a) p k = refl
 line-shown t Levels p k = refl
+line-shown t Watch p k = refl
 line-shown t End p k = ap endLine k
 
 pub line-shows : (s : List ℕ) (xs : List Field) (f : Field) (ys : List Field) → scoreOf s ≡ good (xs ++ (f ∷ ys)) → Shows (listing s) xs f
@@ -37,9 +39,15 @@ unfolding listingBy playBy
 line-shows s xs f ys e =
     let m = stamp-clocks s xs f ys e in
     let q = atStamp f (played xs fresh) in
+    let way = watched (f .stamp) (played xs fresh) in
     let line = line-shown (f .stamp) (f .what) q (m .clock) ∙ ap (shownBy (f .stamp) (f .what)) (m .chip) in
     record {
       rest = play ys (doneBy (f .what) q);
-      stands = ap listingOf e ∙ (play-join xs (f ∷ ys) fresh ∙ ap (λ (text : List ℕ). play xs fresh ++ (text ++ play ys (doneBy (f .what) q))) line);
+      stands =
+          ap listingOf e
+          ∙ (play-join xs (f ∷ ys) fresh
+          ∙ ap (λ (text : List ℕ). play xs fresh ++ text)
+          (append-assoc way (lineOf (f .stamp) (f .what) q) (play ys (doneBy (f .what) q))
+          ∙ ap (λ (text : List ℕ). way ++ (text ++ play ys (doneBy (f .what) q))) line));
       ticks = m .ticks;
     }

@@ -7,9 +7,9 @@ use mathlib.Core.Bool.{true}
 use mathlib.Core.List.{List, [], _++_, append-nil, append-assoc}
 use mathlib.Core.Path.{_≡_, refl, ap, ap₂, sym, subst, _∙_}
 use lib.ListN.{length, take, length-append}
-use borrow.Author.Tests.{lt-ltb, le-ltb, le-leb}
+use borrow.Author.Tests.{lt-ltb, le-ltb}
 use Rattle.listing.specs.Text.{Put, copied, textRoom}
-use Rattle.listing.proofs.Joins.{then, put-kept, take-put}
+use Rattle.listing.proofs.Joins.{then, put-kept, put-copied}
 use Rattle.oscillator.specs.Ways.{Ways}
 use Rattle.refusals.specs.Refusals.{refused}
 use Rattle.refusals.specs.declared.Refusal.the-variants.{NoRoom}
@@ -87,10 +87,6 @@ does-one {t} {l} {r} {r′} d d′ =
     (ap₂ (λ (x : Player) (y : ℕ). record { player = x; len = y }) (d .player ∙ sym (d′ .player)) e, d .put .bytes ∙ sym (d′ .put .bytes))
 
 module _ {t : Turn} {l : List ℕ} {r : Stepped} {m : List ℕ} (d : Does t l r m) (e : length l ≡ textRoom) where
-  -- a step's text, in the line that was lent
-  line-is : take (r .len) m ≡ t .text
-  line-is = take-put (d .put) (omega (arith, d .fits))
-
   pub line-kept : length m ≡ textRoom
   line-kept = put-kept textRoom (d .put) e
 
@@ -135,16 +131,13 @@ module _ {w : Ways} {s : List ℕ} {p : Player} {steps : ℕ} {l : List ℕ} {q 
       → Made w s p steps l (r .player) (left - 1) (at + r .len) (copied m at (take (r .len) line′))
   made-more {line} {r} {line′} h e d room =
       let text = turn w s q .text in
-      let fits : at + length text ≤ length m = omega (arith, d .put .place) in
-      let o : Put m at text (at + r .len) (copied m at text) =
-      record { place = omega (arith, d .put .place); bytes = simp (le-leb (at + length text) (length m) fits) } in
       let last : lines w (k .made) s p ++ text ≡ lines w (suc (k .made)) s p =
       ap (λ (x : Player). lines w (k .made) s p ++ turn w s x .text) (k .player) ∙ sym (lines-last w (k .made) s p) in
       record {
         made = suc (k .made);
         count = omega (arith, k .count);
         player = d .player ∙ (ap (λ (x : Player). turn w s x .next) (k .player) ∙ sym (after-last w (k .made) s p));
-        put = rw (← last, line-is d e) (then (k .put) o);
+        put = rw (← last) (then (k .put) (put-copied (d .put) (omega (arith, d .fits)) m at room));
       }
 
 -- from the start of a score, with as many steps as any score takes

@@ -1,12 +1,12 @@
 -- A player's steps over a score, one field each.
-use Prim.Native.Nat.{ℕ, zero, suc, _+_, _≤_}
+use Prim.Native.Nat.{ℕ, zero, suc, _+_, _*_, _≤_}
 use mathlib.Core.Bool.{Bool, true, false, cond}
 use mathlib.Core.List.{List, [], _++_}
 use mathlib.Core.Path.{_≡_}
-use Rattle.listing.specs.Text.{Put, textRoom, refusedLine}
+use Rattle.listing.specs.Text.{Put, textRoom, lineRoom, fadeRoom, refusedLine}
 use Rattle.oscillator.specs.Ways.{Ways}
 use Rattle.panel.specs.declared.Panel.{Panel}
-use Rattle.panel.specs.Panel.{fresh}
+use Rattle.panel.specs.Panel.{fresh, ranToBy}
 use Rattle.refusals.specs.declared.Refused.{Refused as Refusing}
 use Rattle.refusals.specs.Refusals.{told}
 use Rattle.score.specs.declared.Checked.{Checked}
@@ -17,10 +17,11 @@ use Rattle.score.specs.declared.FieldRead.the-variants.{Got, Refused}
 use Rattle.score.specs.Fields.{fieldAt, isEnd}
 use Rattle.score.specs.Scores.{checked}
 use Rattle.player.specs.declared.Player.{Player}
+use Rattle.player.specs.declared.Ran.{Ran}
 use Rattle.player.specs.declared.Rest.{Rest}
 use Rattle.player.specs.declared.Rest.the-variants.{Fields, Refusal, Nothing}
 use Rattle.player.specs.declared.Stepped.{Stepped}
-use Rattle.player.specs.Listing.{lineOf, doneBy, atStampBy}
+use Rattle.player.specs.Listing.{lineOf, doneBy, atStampBy, watchedBy, textBy}
 
 abbrev pub player : Panel → Rest → Player
 player p rest = record { panel = p; rest = rest }
@@ -49,7 +50,7 @@ unfoldable pub onField : Ways → Panel → Field → ℕ → Turn
 onField w p f next =
     record {
       next = player (doneBy (f .what) (atStampBy w f p)) (cond (isEnd (f .what)) Nothing (Fields next));
-      text = lineOf (f .stamp) (f .what) (atStampBy w f p);
+      text = textBy w f p;
     }
 
 abbrev pub onRefusal : Panel → Refusing → Turn
@@ -68,11 +69,28 @@ turnBy w s p Nothing = record { next = player p Nothing; text = [] }
 unfoldable pub turn : Ways → List ℕ → Player → Turn
 turn w s p = turnBy w s (p .panel) (p .rest)
 
+-- the same without its way there: of the panel at its stamp
+abbrev pub onStamp : Panel → Field → ℕ → Turn
+onStamp p f next =
+    record { next = player (doneBy (f .what) p) (cond (isEnd (f .what)) Nothing (Fields next)); text = lineOf (f .stamp) (f .what) p }
+
 -- what a step of the code does: the player after it, and the line at the start of the lent buffer l, which then is m
 pub record Does (t : Turn) (l : List ℕ) (r : Stepped) (m : List ℕ) : Type 0 where
   pub player : r .player ≡ t .next
   pub put : Put l 0 (t .text) (r .len) m
   pub fits : r .len ≤ textRoom
+
+-- what the code does of a field at its stamp: a step, in a line
+pub record DoesLine (t : Turn) (l : List ℕ) (r : Stepped) (m : List ℕ) : Type 0 where
+  pub player : r .player ≡ t .next
+  pub put : Put l 0 (t .text) (r .len) m
+  pub fits : r .len ≤ lineRoom
+
+-- what the code does on the way to a stamp: the panel there, and the lines of bits that fade, at most eight
+pub record Runs (w : Ways) (stamp : ℕ) (p : Panel) (l : List ℕ) (r : Ran) (m : List ℕ) : Type 0 where
+  pub panel : r .panel ≡ ranToBy w stamp p
+  pub put : Put l 0 (watchedBy w stamp p) (r .len) m
+  pub fits : r .len ≤ 8 * fadeRoom
 
 -- the lines of n steps, joined
 unfoldable pub lines : Ways → ℕ → List ℕ → Player → List ℕ

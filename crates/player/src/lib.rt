@@ -1,4 +1,5 @@
-// The player of scores (document 01, 'Score and program'): one field a step, and the whole listing in a lent buffer.
+// The player of scores (document 01, 'Score and program'; document 02, request 5): one field a step, with the bits that
+// fade on the way to it, and the whole listing in a lent buffer.
 // The codes of combined waveforms come from a lent pack of settled codes. An entry that the pack lacks is settled
 // afresh, so an empty pack serves as well.
 use listing::TEXT;
@@ -10,13 +11,15 @@ use score::Field;
 use score::FieldRead;
 use score::What;
 ghost use mathlib.Core.Path.{_≡_};
-ghost use Prim.Native.Nat.{_≤_};
+ghost use mathlib.Core.Bool.{cond};
+ghost use Prim.Native.Nat.{_+_, _≤_};
+ghost use lib.Dec.{eqb};
 ghost use lib.ListN.{length};
-ghost use Rattle.listing.specs.Text.{Put};
+ghost use Rattle.listing.specs.Text.{Put, textRoom, fadeRoom};
 ghost use Rattle.pack.specs.Pack.{over};
 ghost use Rattle.player.specs.Into.{intoAnswer, intoBuffer};
-ghost use Rattle.player.specs.Listing.{listingBy};
-ghost use Rattle.player.specs.Steps.{startOf, isNothing, onField, onRefusal, turn, Does};
+ghost use Rattle.player.specs.Listing.{fadeOf, listingBy};
+ghost use Rattle.player.specs.Steps.{startOf, isNothing, onField, onStamp, onRefusal, turn, Does, DoesLine, Runs};
 
 // What a player has still to do: the fields from a place on, or to tell a refusal.
 pub enum Rest {
@@ -48,6 +51,12 @@ pub struct Stepped {
     pub len: usize,
 }
 
+// The panel at a stamp, and the length of the lines of bits that fade on the way.
+struct Ran {
+    panel: Panel,
+    len: usize,
+}
+
 fn refuse(panel: Panel, r: Refused, line: &mut [u8; TEXT]) -> Stepped
     ensures { λ s. ⌜ Does (onRefusal panel r) (now (line .entry)) s (now (line .exit)) ⌝ }
 {
@@ -57,11 +66,47 @@ fn refuse(panel: Panel, r: Refused, line: &mut [u8; TEXT]) -> Stepped
     Stepped { player, len }
 }
 
-fn play_field(panel: Panel, f: Field, next: usize, pack: &[u16], line: &mut [u8; TEXT]) -> Stepped
-    ensures { λ r. ⌜ Does (onField (over (now (pack .entry))) panel f next) (now (line .entry)) r (now (line .exit)) ⌝ }
+// The line of a clock at a place in the text, if it loses bits.
+fn put_fade(text: &mut [u8; TEXT], at: usize, clock: u32, lost: u8) -> usize
+    requires { ⌜ at + fadeRoom ≤ textRoom ⌝ }
+    ensures { λ r. ⌜ Put (now (text .entry)) at (fadeOf clock lost) r (now (text .exit)) × (r ≤ at + cond (eqb lost 0) 0 fadeRoom) ⌝ }
+{
+    if lost == 0 {
+        return at;
+    }
+    let mut line = [0u8; TEXT];
+    let len = listing::fade_line(&mut line, clock, lost);
+    listing::copy_into(text, at, &line[..len]);
+    at + len
+}
+
+// From loss to loss, where the bus is watched: nothing but its own clock moves it, so that no clock is looked at that
+// loses nothing.
+fn run_to(panel: Panel, stamp: u32, pack: &[u16], text: &mut [u8; TEXT]) -> Ran
+    ensures { λ r. ⌜ Runs (over (now (pack .entry))) stamp panel (now (text .entry)) r (now (text .exit)) ⌝ }
+{
+    if !panel.watched {
+        let there = panel.run_to(stamp, pack);
+        return Ran {
+            panel: there,
+            len: 0,
+        };
+    }
+    let mut p = panel;
+    let mut at: usize = 0;
+    while p.clock < stamp {
+        let leapt = p.leap_to(stamp, pack);
+        p = leapt.panel;
+        at = put_fade(text, at, p.clock, leapt.lost);
+    }
+    Ran { panel: p, len: at }
+}
+
+// A field on the panel at its stamp.
+fn do_field(there: Panel, f: Field, next: usize, line: &mut [u8; TEXT]) -> Stepped
+    ensures { λ r. ⌜ DoesLine (onStamp there f next) (now (line .entry)) r (now (line .exit)) ⌝ }
 {
     let stamp = f.stamp;
-    let there = panel.run_to(stamp, pack);
     let what = f.what;
     match what {
         What::Write { address, value } => {
@@ -97,12 +142,34 @@ fn play_field(panel: Panel, f: Field, next: usize, pack: &[u16], line: &mut [u8;
             let player = Player { panel: there, rest };
             return Stepped { player, len };
         }
+        What::Watch => {
+            let panel = there.watch();
+            let rest = Rest::Fields { at: next };
+            let player = Player { panel, rest };
+            return Stepped { player, len: 0 };
+        }
         What::End => {
             let len = listing::end_line(line, there.clock);
             let rest = Rest::Nothing;
             let player = Player { panel: there, rest };
             return Stepped { player, len };
         }
+    }
+}
+
+fn play_field(panel: Panel, f: Field, next: usize, pack: &[u16], text: &mut [u8; TEXT]) -> Stepped
+    ensures { λ r. ⌜ Does (onField (over (now (pack .entry))) panel f next) (now (text .entry)) r (now (text .exit)) ⌝ }
+{
+    let ran = run_to(panel, f.stamp, pack, text);
+    let there = ran.panel;
+    let mut line = [0u8; TEXT];
+    let done = do_field(there, f, next, &mut line);
+    let len = done.len;
+    listing::copy_into(text, ran.len, &line[..len]);
+    let player = done.player;
+    Stepped {
+        player,
+        len: ran.len + len,
     }
 }
 

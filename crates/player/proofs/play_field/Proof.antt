@@ -1,8 +1,11 @@
--- `play_field` runs the panel to the field's stamp, does what the field says, and puts its line, if it has one.
+-- `play_field` runs the panel to the field's stamp, does what the field says, and puts the lines of the bits that fade on
+-- the way, then the field's own.
 use borrow.Author.Needs.{needs}
-use mathlib.Core.Path.{refl}
-use lib.Dec.{lit≤}
-use Rattle.player.specs.Listing.{lineOf, doneBy}
+use native.Mathlib.Omega.{arith}
+use mathlib.Core.Path.{refl, sym}
+use lib.Seq.{length-take-le}
+use Rattle.listing.specs.Text.{textRoom}
+use Rattle.listing.proofs.Joins.{then, put-kept, put-copied}
 use Rattle.player.specs.Steps.{onField}
 use Rattle.player.proofs.play_field.Statement.{statement}
 use Rattle.player.proofs.play_field.Tie as tie
@@ -10,81 +13,49 @@ use Rattle.player.proofs.play_field.Tie as tie
 run-to-requires : tie.Need-run-to-requires
 run-to-requires c κs = search needs
 
-enum-known-what : tie.Need-enum-known-what
-enum-known-what c = search needs
+do-field-requires : tie.Need-do-field-requires
+do-field-requires c κs = search needs
 
-write-requires : tie.Need-write-requires
-write-requires c κs = search needs
+array-share-prefix-line : tie.Need-array-share-prefix-line
+array-share-prefix-line c =
+    let line = c .before .do-field .ensures in
+    omega (arith, line .fits, put-kept textRoom (line .put) refl)
+
+slice-aggregate-copy-into : tie.Need-slice-aggregate-copy-into
+slice-aggregate-copy-into c =
+    let line = c .before .before .do-field .ensures in
+    sym (length-take-le _ _ (omega (arith, line .fits, put-kept textRoom (line .put) refl)))
+
+copy-into-requires : tie.Need-copy-into-requires
+copy-into-requires c κs = search needs
+
+add-t19 : tie.Need-add-t19
+add-t19 c =
+    let line = c .before .before .before .before .before .do-field .ensures in
+    let ran = c .before .before .before .before .before .before .before .before .run-to .ensures in
+    omega (arith, line .fits, ran .fits)
 
 returns : tie.Need-returns
-unfolding onField lineOf doneBy
+unfolding onField
 returns c =
-    rw (← (c .before .before .before .before .run-to .ensures), c .before .before .what .given .1)
-    (record { player = simp (c .write .ensures); put = record { place = refl; bytes = refl }; fits = lit≤ tt })
-
-enum-known-what-2 : tie.Need-enum-known-what-2
-enum-known-what-2 c = search needs
-
-read-requires : tie.Need-read-requires
-read-requires c κs = search needs
-
-read-line-requires : tie.Need-read-line-requires
-read-line-requires c κs = search needs
-
-returns-2 : tie.Need-returns-2
-unfolding onField lineOf doneBy
-returns-2 c =
-    let read = c .before .before .before .read .ensures in
-    let line = c .before .read-line .ensures in
-    rw (← (c .before .before .before .before .before .before .before .run-to .ensures), c .before .before .before .before .before .what2 .given .1)
-    (record { player = simp read; put = rw (← read) (line .0); fits = line .1 })
-
-enum-told : tie.Need-enum-told
-enum-told c = search needs
-
-levels-requires : tie.Need-levels-requires
-levels-requires c κs = search needs
-
-levels-line-requires : tie.Need-levels-line-requires
-levels-line-requires c κs = search needs
-
-returns-3 : tie.Need-returns-3
-unfolding onField lineOf doneBy
-returns-3 c =
-    let told = c .before .before .before .before .before .before in
-    let line = c .levels-line .ensures in
-    rw (← (told .before .before .run-to .ensures), told .enum-told .given .1)
-    (record { player = refl; put = rw (← (c .before .before .before .before .before .levels .ensures)) (line .0); fits = line .1 })
-
-enum-told-2 : tie.Need-enum-told-2
-enum-told-2 c = search needs
-
-end-line-requires : tie.Need-end-line-requires
-end-line-requires c κs = search needs
-
-returns-4 : tie.Need-returns-4
-unfolding onField lineOf doneBy
-returns-4 c =
-    let line = c .end-line .ensures in
-    rw (← (c .before .before .before .before .run-to .ensures), c .before .before .enum-told2 .given .1)
-    (record { player = refl; put = line .0; fits = line .1 })
+    let copy = c .before .before in
+    let field = copy .before .before .before in
+    let run = field .before .before .before in
+    let line = field .do-field .ensures in
+    let ran = run .run-to .ensures in
+    let room = copy .before .before .copy-into-arg .given .0 .1 in
+    let put = then (ran .put) (put-copied (line .put) (omega (arith, line .fits)) _ _ (omega (arith, line .fits, ran .fits, room))) in
+    rw (copy .copy-into .ensures .1)
+    (rw (← (ran .panel)) (record { player = line .player; put = put; fits = omega (arith, line .fits, ran .fits) }))
 
 pub play-field-spec : {M : Type 1} → statement M
 play-field-spec =
     tie.close
     (tie.spec
     run-to-requires
-    enum-known-what
-    write-requires
-    returns
-    enum-known-what-2
-    read-requires
-    read-line-requires
-    returns-2
-    enum-told
-    levels-requires
-    levels-line-requires
-    returns-3
-    enum-told-2
-    end-line-requires
-    returns-4)
+    do-field-requires
+    array-share-prefix-line
+    slice-aggregate-copy-into
+    copy-into-requires
+    add-t19
+    returns)
