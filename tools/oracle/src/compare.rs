@@ -32,6 +32,7 @@ pub fn calls(program: &[&OsStr], seeds: u64, ticks: u64, first: u64) -> io::Resu
     let mut recorder = Recorder::new();
     let mut records = 0;
     let mut ticked = 0;
+    let mut fading = 0;
     let mut run = 0;
     for batch in batches(first..first + seeds, SEEDS_AT_ONCE) {
         recorder.restart(false);
@@ -48,10 +49,12 @@ pub fn calls(program: &[&OsStr], seeds: u64, ticks: u64, first: u64) -> io::Resu
         }
         records += recorder.records.len() / RECORD_BYTES;
         ticked += recorder.ticked;
+        fading += recorder.fading;
         run += recorder.run;
     }
     println!("{seeds} seeds, {records} calls: no difference");
     println!("{ticked} clocks compared one by one, {run} in runs compared at their ends");
+    println!("{fading} of those compared one by one lose bits");
     Ok(true)
 }
 

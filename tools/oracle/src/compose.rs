@@ -55,7 +55,7 @@ impl<'a> Composer<'a> {
             Event::Read { address } => {
                 self.chip.read(address.into());
             }
-            Event::Levels | Event::End => {}
+            Event::Levels | Event::Watch | Event::End => {}
         }
         let stamp = self.clocks;
         self.fields.push(Field { stamp, event });
