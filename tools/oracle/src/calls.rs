@@ -5,10 +5,10 @@
 //! have is 0.
 //!
 //! The outputs are one word: codes from bit 0, 12 and 24 on, levels from bit 36, 44 and 52 on.
-//! `Tick` answers with a digest of the outputs after each clock and of the bits that the bus lost on
-//! it; `Watch` reads after each clock, and its digest has that byte, too; `Run` answers with the
-//! outputs after its last clock. `Code`, `Level` and `Held` answer for a voice, or give the refusal's
-//! number from bit 32 on and its place.
+//! `Tick` answers with a digest of the outputs after each clock, each followed by the bits that the
+//! bus lost on that clock; `Watch` reads after each clock, and its digest has that byte, too; `Run`
+//! answers with the outputs after its last clock. `Code`, `Level` and `Held` answer for a voice, or
+//! give the refusal's number from bit 32 on and its place.
 //!
 //! `Tick`, `Watch` and `Run` have a value: 0 for the plain engine, 1 for the engine over the pack. In
 //! the original the pack's entries take the place of the settled codes then. `Pack` makes the pack or

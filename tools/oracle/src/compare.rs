@@ -119,6 +119,9 @@ fn scores_in(folder: &Path, program: &[&OsStr], count: u64, first: u64) -> io::R
     let mut cut = 0;
     let mut refused = BTreeMap::new();
     let mut clocks = 0;
+    let mut watched = 0;
+    let mut telling = 0;
+    let mut told = 0;
     for batch in batches(first..first + count, SCORES_AT_ONCE) {
         let composed = batch
             .clone()
@@ -136,10 +139,15 @@ fn scores_in(folder: &Path, program: &[&OsStr], count: u64, first: u64) -> io::R
             };
             rest = after;
             cut += u64::from(compose::is_cut(seed));
-            if let Err(told) = score::check(score) {
-                *refused.entry(told.number).or_insert(0) += 1;
+            if let Err(why) = score::check(score) {
+                *refused.entry(why.number).or_insert(0) += 1;
             }
             clocks += score::clocks(score);
+            let losses = listing.lines().filter(|line| line.starts_with('F'));
+            let losses = losses.count();
+            watched += u64::from(compose::is_watched(seed));
+            telling += u64::from(losses > 0);
+            told += losses;
         }
         if !rest.is_empty() {
             println!("more than {} scores are listed", scores.len());
@@ -147,6 +155,7 @@ fn scores_in(folder: &Path, program: &[&OsStr], count: u64, first: u64) -> io::R
         }
     }
     println!("{count} scores, {cut} of them cut, {clocks} clocks: no difference");
+    println!("{watched} scores with a watch; {telling} listings tell {told} losses");
     for (number, scores) in refused {
         println!("refused {number}: {scores}");
     }

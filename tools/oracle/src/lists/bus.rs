@@ -157,8 +157,8 @@ fn renew_in_mid_fade(recorder: &mut Recorder, random: &mut Random) {
     }
 }
 
-/// With no read on the way: to the clock before a loss and over it, to the loss in one go and a clock
-/// further. No clock is no loss, and what a call takes away just before its clock is not lost.
+/// With no read on the way: to the clock before a loss and over it, to the loss in one go and a
+/// clock further. No clock is no loss, and what a call takes away on the clock before is not lost.
 fn lose_on_the_last_clock(recorder: &mut Recorder) {
     let mut bytes: Vec<u8> = (0..8).map(|bit| 1 << bit).collect();
     bytes.extend([0xff, 0x7e, 0xa5, 0x11]);

@@ -1,4 +1,4 @@
-/// Beside the original bus: its private state, read and built, and a clock that tells what it loses.
+/// Beside the original bus: its private state, read and built, and a clock that tells its losses.
 impl InternalDataBus {
     pub fn from_state(value: u8, age: u32, next_expiry: u32) -> Self {
         Self {

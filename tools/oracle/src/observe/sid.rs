@@ -1,6 +1,6 @@
-/// Beside the original chip: its bus, a tick that tells what this loses, its oscillators' cycles,
-/// whether their leaks come singly, its tables, which others may replace, and the chip made new but
-/// for them.
+/// Beside the original chip: its bus, a tick that tells what that loses, its oscillators' cycles,
+/// whether their leaks come singly, its tables, which others may replace, and the chip made new
+/// but for them.
 impl Mos6581 {
     pub fn bus(&self) -> &InternalDataBus {
         &self.data_bus
