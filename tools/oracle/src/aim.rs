@@ -4,8 +4,8 @@
 use crate::calls::{Call, Pace, Recorder, Rule};
 use crate::random::Random;
 use crate::sid::constants::{
-    NEVER, NOISE_TEST_LEAK_INTERVAL_CYCLES, NOISE_TEST_LOGIC_THRESHOLD, WAVEFORM_FLOAT_HOLD_CYCLES,
-    WAVEFORM_FLOAT_LEAK_INTERVAL_CYCLES,
+    DATA_BUS_HOLD_CYCLES, NEVER, NOISE_TEST_LEAK_INTERVAL_CYCLES, NOISE_TEST_LOGIC_THRESHOLD,
+    WAVEFORM_FLOAT_HOLD_CYCLES, WAVEFORM_FLOAT_LEAK_INTERVAL_CYCLES,
 };
 use crate::sid::oscillator::{Oscillator, OscillatorState};
 use crate::sid::sid::Mos6581;
@@ -17,6 +17,8 @@ const PHASE_MASK: u32 = 0xff_ffff;
 
 const FLOAT_TO_THE_END: u32 = 1_260_030;
 const LEAK_IN_TEST: u32 = 65_540;
+/// Of a bit on the bus.
+pub const LONGEST_HOLD: u32 = DATA_BUS_HOLD_CYCLES[7];
 
 /// Leaks after which a code's lines hold nothing more.
 const LEAKS_OF_LINES: u32 = 15;
@@ -62,6 +64,7 @@ pub fn seeded_calls(recorder: &mut Recorder, seed: u64, ticks: u64) {
         3 | 4 => recover(recorder, &mut random, Loss::Whole),
         5..=12 => recover(recorder, &mut random, Loss::Partial),
         13 => leak_together(recorder, &mut random),
+        14..=21 => fade(recorder, &mut random),
         _ => {}
     }
     go_on(recorder, &mut random, ticks, patience);
@@ -226,6 +229,34 @@ fn leak_together(recorder: &mut Recorder, random: &mut Random) {
     }
     leave_test(recorder, recovering, random);
     recorder.make(&[Call::Run(2 * WAVEFORM_FLOAT_LEAK_INTERVAL_CYCLES)]);
+}
+
+/// Bytes are driven and left to fade, and calls fall about the clocks on which bits are lost.
+fn fade(recorder: &mut Recorder, random: &mut Random) {
+    for _ in 0..4 {
+        let address = mirrored(0x15 + random.below(11) as u16, random);
+        recorder.make(&[match random.below(4) {
+            0 => Call::Read(any_address(random)),
+            _ => Call::Write(address, fading_byte(random)),
+        }]);
+        for _ in 0..=random.below(4) {
+            recorder.clock_until(Pace::Run, LONGEST_HOLD, fades_next_or_never);
+            recorder.make(&[Call::Tick(random.below(2))]);
+            if random.below(2) == 0 {
+                call_beside(recorder, random.below(3) as usize, random);
+            }
+            pass(recorder, random);
+        }
+    }
+}
+
+/// One bit, all or any.
+pub fn fading_byte(random: &mut Random) -> u8 {
+    match random.below(4) {
+        0 | 1 => 1 << random.below(8),
+        2 => 0xff,
+        _ => random.byte(),
+    }
 }
 
 /// Clocks from the selection of none to a leak of the lines, by its number from 1 on.
@@ -470,11 +501,19 @@ pub fn edge(voice: usize, random: &mut Random) -> Wanted {
         19 => envelope(voice, |e| {
             e.amplitude_delay == 1 && e.volume >> 4 == e.volume & 0x0f
         }),
-        _ => Box::new(|chip| {
-            let (value, age, next_expiry) = chip.bus().state();
-            value != 0 && age + 1 == next_expiry
-        }),
+        _ => Box::new(fades_next),
     }
+}
+
+/// Whether the bus loses bits on the next clock.
+fn fades_next(chip: &Mos6581) -> bool {
+    let (value, age, next_expiry) = chip.bus().state();
+    value != 0 && age + 1 == next_expiry
+}
+
+/// Whether it does, or has none left to lose.
+pub fn fades_next_or_never(chip: &Mos6581) -> bool {
+    fades_next(chip) || chip.bus().read_floating() == 0
 }
 
 fn envelope(

@@ -24,7 +24,10 @@ pub fn seeded(seed: u64) -> WriterCalls {
     let mut writer = before;
     for _ in 0..=random.below(calls) {
         let field = match random.below(64) {
-            0 if !played => score::levels(LATEST_STAMP - random.below(8)),
+            0 if !played => {
+                let kind = random.pick(&[score::levels, score::watch]);
+                kind(LATEST_STAMP - random.below(8))
+            }
             _ => field(&writer, BAD_STAMPS, &mut random),
         };
         // A refusal leaves the state as it is.
@@ -94,7 +97,8 @@ pub fn field(writer: &Writer, bad_stamps: u32, random: &mut Random) -> Field {
     let Writer { last, free, .. } = *writer;
     let event = match random.below(32) {
         0 => Event::End,
-        1..=8 => Event::Levels,
+        1..=4 => Event::Levels,
+        5..=8 => Event::Watch,
         9..=16 => Event::Read {
             address: random.byte(),
         },
@@ -108,7 +112,7 @@ pub fn field(writer: &Writer, bad_stamps: u32, random: &mut Random) -> Field {
         false => last,
     };
     let stamp = if random.below(bad_stamps) > 0 {
-        due.saturating_add(random.pick(&[0, 0, 0, 1, 1, 2, 5]))
+        due.saturating_add(random.pick(&[0, 0, 0, 1, 1, 2, 5, 12]))
     } else {
         match random.below(8) {
             0 | 1 => last.saturating_sub(1),

@@ -5,9 +5,10 @@
 //! have is 0.
 //!
 //! The outputs are one word: codes from bit 0, 12 and 24 on, levels from bit 36, 44 and 52 on.
-//! `Tick` answers with a digest of the outputs after each clock; `Watch` reads after each clock,
-//! and its digest has that byte, too; `Run` answers with the outputs after its last clock. `Code`,
-//! `Level` and `Held` answer for a voice, or give the refusal's number from bit 32 on and its place.
+//! `Tick` answers with a digest of the outputs after each clock, each followed by the bits that the
+//! bus lost on that clock; `Watch` reads after each clock, and its digest has that byte, too; `Run`
+//! answers with the outputs after its last clock. `Code`, `Level` and `Held` answer for a voice, or
+//! give the refusal's number from bit 32 on and its place.
 //!
 //! `Tick`, `Watch` and `Run` have a value: 0 for the plain engine, 1 for the engine over the pack. In
 //! the original the pack's entries take the place of the settled codes then. `Pack` makes the pack or
@@ -18,6 +19,7 @@
 //! it lends as many to `tick_packed`, `run_packed` and `fill`, and then one fewer until there is
 //! none. It answers with a digest of two fields: how many lengths not all three refused, from bit 32
 //! on, and the first such one's number among the lengths lent, from 1; then a digest of the entries.
+//! A tick that told bits as lost has not refused.
 //!
 //! The port has one cycle for the three voices. The original has three, and each record is made only
 //! where they agree and count the clocks since the chip was made or last reset.
@@ -95,6 +97,8 @@ pub struct Recorder {
     pub records: Vec<u8>,
     /// Clocks whose outputs are each in a digest.
     pub ticked: u64,
+    /// Those of them on which the bus lost bits.
+    pub fading: u64,
     /// Clocks of runs, whose outputs are recorded after the last.
     pub run: u64,
     /// Clocks since the chip was made or last reset.
@@ -119,6 +123,7 @@ impl Recorder {
             packed: false,
             records: Vec::new(),
             ticked: 0,
+            fading: 0,
             run: 0,
             since: 0,
             clock_by_clock: false,
@@ -130,6 +135,7 @@ impl Recorder {
         self.chip.renew();
         self.records.clear();
         self.ticked = 0;
+        self.fading = 0;
         self.run = 0;
         self.since = 0;
         self.clock_by_clock = clock_by_clock;
@@ -248,19 +254,24 @@ impl Recorder {
     fn clock_record(&mut self, pace: Pace, most: u32, wanted: impl Fn(&Mos6581) -> bool) -> u32 {
         let mut digest = 1;
         let mut clocks = 0;
+        let mut fading = 0;
         while clocks < most && !wanted(&self.chip) {
             assert!(self.chip.leaks_by_single_steps());
-            self.chip.tick();
-            digest = mixed(digest, outputs(&self.chip));
+            let lost = self.chip.tick_losing();
+            digest = mixed(mixed(digest, outputs(&self.chip)), lost.into());
             if let Pace::Watch(address) = pace {
                 digest = mixed(digest, self.chip.read(address).into());
             }
             clocks += 1;
+            fading += u64::from(lost != 0);
         }
         self.since += u64::from(clocks);
         match pace {
             Pace::Run => self.run += u64::from(clocks),
-            Pace::Tick | Pace::Watch(_) => self.ticked += u64::from(clocks),
+            Pace::Tick | Pace::Watch(_) => {
+                self.ticked += u64::from(clocks);
+                self.fading += fading;
+            }
         }
         let engine = self.packed.into();
         match pace {

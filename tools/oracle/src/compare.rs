@@ -32,6 +32,7 @@ pub fn calls(program: &[&OsStr], seeds: u64, ticks: u64, first: u64) -> io::Resu
     let mut recorder = Recorder::new();
     let mut records = 0;
     let mut ticked = 0;
+    let mut fading = 0;
     let mut run = 0;
     for batch in batches(first..first + seeds, SEEDS_AT_ONCE) {
         recorder.restart(false);
@@ -48,10 +49,12 @@ pub fn calls(program: &[&OsStr], seeds: u64, ticks: u64, first: u64) -> io::Resu
         }
         records += recorder.records.len() / RECORD_BYTES;
         ticked += recorder.ticked;
+        fading += recorder.fading;
         run += recorder.run;
     }
     println!("{seeds} seeds, {records} calls: no difference");
     println!("{ticked} clocks compared one by one, {run} in runs compared at their ends");
+    println!("{fading} of those compared one by one lose bits");
     Ok(true)
 }
 
@@ -116,6 +119,9 @@ fn scores_in(folder: &Path, program: &[&OsStr], count: u64, first: u64) -> io::R
     let mut cut = 0;
     let mut refused = BTreeMap::new();
     let mut clocks = 0;
+    let mut watched = 0;
+    let mut telling = 0;
+    let mut told = 0;
     for batch in batches(first..first + count, SCORES_AT_ONCE) {
         let composed = batch
             .clone()
@@ -133,10 +139,15 @@ fn scores_in(folder: &Path, program: &[&OsStr], count: u64, first: u64) -> io::R
             };
             rest = after;
             cut += u64::from(compose::is_cut(seed));
-            if let Err(told) = score::check(score) {
-                *refused.entry(told.number).or_insert(0) += 1;
+            if let Err(why) = score::check(score) {
+                *refused.entry(why.number).or_insert(0) += 1;
             }
             clocks += score::clocks(score);
+            let losses = listing.lines().filter(|line| line.starts_with('F'));
+            let losses = losses.count();
+            watched += u64::from(compose::is_watched(seed));
+            telling += u64::from(losses > 0);
+            told += losses;
         }
         if !rest.is_empty() {
             println!("more than {} scores are listed", scores.len());
@@ -144,6 +155,7 @@ fn scores_in(folder: &Path, program: &[&OsStr], count: u64, first: u64) -> io::R
         }
     }
     println!("{count} scores, {cut} of them cut, {clocks} clocks: no difference");
+    println!("{watched} scores with a watch; {telling} listings tell {told} losses");
     for (number, scores) in refused {
         println!("refused {number}: {scores}");
     }

@@ -3,7 +3,7 @@
 
 use crate::aim;
 use crate::random::Random;
-use crate::score::{self, end, levels, read, Event, Field};
+use crate::score::{self, end, levels, read, watch, Event, Field};
 use crate::score::{HEADER_BYTES, LATEST_STAMP, MOST_BYTES, STAMP_BYTES};
 use crate::sid::sid::Mos6581;
 
@@ -11,7 +11,9 @@ use crate::sid::sid::Mos6581;
 const MOST_CLOCKS: u64 = 300_000;
 
 /// Known and unknown.
-const TAGS: [u8; 10] = [0x01, 0x02, 0x03, 0x7f, 0x00, 0x04, 0x7e, 0x80, 0x81, 0xff];
+const TAGS: [u8; 11] = [
+    0x01, 0x02, 0x03, 0x04, 0x7f, 0x00, 0x05, 0x7e, 0x80, 0x84, 0xff,
+];
 
 /// A chip that goes along with the score as it grows.
 pub struct Composer<'a> {
@@ -55,7 +57,7 @@ impl<'a> Composer<'a> {
             Event::Read { address } => {
                 self.chip.read(address.into());
             }
-            Event::Levels | Event::End => {}
+            Event::Levels | Event::Watch | Event::End => {}
         }
         let stamp = self.clocks;
         self.fields.push(Field { stamp, event });
@@ -107,6 +109,87 @@ impl<'a> Composer<'a> {
         self.put(Event::End);
         self.fields
     }
+
+    /// So many bytes that fade, with fields and an end about the clocks on which bits are lost.
+    pub fn fading(mut self, drives: u32, patience: u32, random: &mut Random) -> Vec<Field> {
+        for _ in 0..random.below(4) {
+            self.put_aimed(random.below(3) as usize, random);
+        }
+        for _ in 0..drives {
+            let value = aim::fading_byte(random);
+            self.put_drive(value, random);
+            for _ in 0..=random.below(4) {
+                self.wait_for_a_loss(patience, random);
+                for _ in 0..random.below(3) {
+                    self.put_beside(random);
+                }
+            }
+        }
+        self.wait_for_a_loss(patience, random);
+        self.put(Event::End);
+        self.fields
+    }
+
+    /// To the clock on which bits are lost, the one before or the one after.
+    fn wait_for_a_loss(&mut self, patience: u32, random: &mut Random) {
+        self.wait_until(patience, aim::fades_next_or_never);
+        self.wait_until(random.pick(&[0, 1, 1, 1, 2]), |_| false);
+    }
+
+    /// By a write of this value mostly, or by a read that drives what it returns.
+    fn put_drive(&mut self, value: u8, random: &mut Random) {
+        self.wait_for_the_bus();
+        let address = random.byte();
+        self.put(match random.below(4) {
+            0 => Event::Read {
+                address: address & 0xe0 | (0x19 + random.below(4) as u8),
+            },
+            _ => Event::Write { address, value },
+        });
+    }
+
+    /// Levels, a read, which seldom drives, or a drive of the byte that is there or another.
+    fn put_beside(&mut self, random: &mut Random) {
+        let there = self.chip.bus().read_floating();
+        match random.below(8) {
+            0..=2 => self.put(Event::Levels),
+            3..=5 => {
+                self.wait_for_the_bus();
+                let address = random.byte();
+                self.put(Event::Read { address });
+            }
+            6 => self.put_drive(there, random),
+            _ => self.put_drive(random.byte(), random),
+        }
+    }
+}
+
+/// One watch or two more, each between two fields, on the clock of either or on the way; the first
+/// fields are chosen more often.
+pub fn with_watches(mut fields: Vec<Field>, random: &mut Random) -> Vec<Field> {
+    for _ in 0..=random.below(2) {
+        let places = random.pick(&[3, usize::MAX]).min(fields.len());
+        let place = random.below(places as u32) as usize;
+        let earliest = place
+            .checked_sub(1)
+            .map_or(0, |before| fields[before].stamp);
+        let latest = fields[place].stamp;
+        let between = earliest + random.below(latest - earliest + 1);
+        fields.insert(place, watch(random.pick(&[earliest, latest, between])));
+    }
+    fields
+}
+
+fn is_watch(field: &Field) -> bool {
+    matches!(field.event, Event::Watch)
+}
+
+/// The place of some field, of a watch more often than of others.
+fn some_place(fields: &[Field], random: &mut Random) -> usize {
+    match fields.iter().position(is_watch) {
+        Some(place) if random.below(4) == 0 => place,
+        _ => random.below(fields.len() as u32) as usize,
+    }
 }
 
 /// Whether the score with this seed is cut, as by a mail gateway: a third are, seed 1 the first.
@@ -119,30 +202,43 @@ fn is_crowded(seed: u64) -> bool {
     seed % 6 == 2
 }
 
+/// Whether it has a watch: half do, of each kind, seed 6 the first.
+pub fn is_watched(seed: u64) -> bool {
+    seed % 12 >= 6
+}
+
 /// The score with this seed.
 pub fn generated(seed: u64, chip: &mut Mos6581) -> Vec<u8> {
     let mut random = Random::seeded(seed);
-    if is_cut(seed) {
-        let waits = random.below(8);
-        let fields = Composer::new(chip).aimed(waits, 100, &mut random);
-        return cut_fields(fields, &mut random);
-    }
-    if is_crowded(seed) {
-        let waits = random.below(8);
-        let fields = Composer::new(chip).aimed(waits, 100, &mut random);
-        return crowd_fields(fields, &mut random);
-    }
-    if random.below(4) != 0 {
-        let (patience, waits) = match random.below(10) {
+    let whole = !is_cut(seed) && !is_crowded(seed) && random.below(4) != 0;
+    let (patience, waits) = match whole {
+        false => (100, random.below(8)),
+        true => match random.below(10) {
             0 => (45_000, random.below(20)),
             1 | 2 => (3_000, random.below(60)),
             _ => (random.pick(&[100, 300, 1_000]), random.below(60)),
-        };
-        let fields = Composer::new(chip).aimed(waits, patience, &mut random);
+        },
+    };
+    let composer = Composer::new(chip);
+    let fields = if !is_watched(seed) {
+        composer.aimed(waits, patience, &mut random)
+    } else if random.below(2) == 0 {
+        with_watches(composer.aimed(waits, patience, &mut random), &mut random)
+    } else {
+        let longest = if whole { aim::LONGEST_HOLD } else { patience };
+        let patience = random.pick(&[patience, longest, longest]);
+        let fields = composer.fading(1 + waits % 5, patience, &mut random);
+        with_watches(fields, &mut random)
+    };
+    if whole {
         return score::bytes_of(&fields);
     }
-    let waits = random.below(8);
-    let fields = Composer::new(chip).aimed(waits, 100, &mut random);
+    if is_cut(seed) {
+        return cut_fields(fields, &mut random);
+    }
+    if is_crowded(seed) {
+        return crowd_fields(fields, &mut random);
+    }
     let mut broken = break_fields(&fields, &mut random);
     if score::clocks(&broken) > MOST_CLOCKS {
         // Refused before the first clock.
@@ -154,7 +250,7 @@ pub fn generated(seed: u64, chip: &mut Mos6581) -> Vec<u8> {
 /// Cut before any byte of any field. The field may have another fault, too, and the score be as long
 /// as one may be, a byte shorter or a byte longer.
 fn cut_fields(mut fields: Vec<Field>, random: &mut Random) -> Vec<u8> {
-    let mut chosen = random.below(fields.len() as u32) as usize;
+    let mut chosen = some_place(&fields, random);
     let kept = random.below(fields[chosen].bytes().len() as u32) as usize;
     if random.below(8) == 0 {
         let length = MOST_BYTES - 1 + random.below(3) as usize;
@@ -184,16 +280,20 @@ pub fn filler(bytes: usize) -> Vec<Field> {
     fields
 }
 
-/// Two accesses or three more before some field and on its clock, levels among them. What is amiss
-/// with the second of them may be something else, too.
+/// Two accesses or three more before some field and on its clock, levels among them, and watches
+/// where the score has one. What is amiss with the second of them may be something else, too.
 fn crowd_fields(mut fields: Vec<Field>, random: &mut Random) -> Vec<u8> {
+    let watched = fields.iter().any(is_watch);
     let chosen = random.below(fields.len() as u32) as usize;
     let stamp = fields[chosen].stamp;
     let mut crowd = Vec::new();
     let mut second = 0;
     for number in 0..2 + random.below(2) {
         for _ in 0..random.pick(&[0, 0, 1, 2]) {
-            crowd.push(Event::Levels);
+            crowd.push(match watched && random.below(2) == 0 {
+                true => Event::Watch,
+                false => Event::Levels,
+            });
         }
         if number == 1 {
             second = chosen + crowd.len();
@@ -231,7 +331,7 @@ fn spoil(field: &mut [u8], stamp: u32, random: &mut Random) {
 }
 
 fn break_fields(fields: &[Field], random: &mut Random) -> Vec<u8> {
-    let chosen = random.below(fields.len() as u32) as usize;
+    let chosen = some_place(fields, random);
     let place = score::bytes_of(&fields[..chosen]).len();
     let after = place + fields[chosen].bytes().len();
     let stamp = fields[chosen].stamp;

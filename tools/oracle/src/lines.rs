@@ -35,7 +35,10 @@ fn fields(random: &mut Random) -> Vec<Field> {
     let bad_stamps = random.pick(&[BAD_STAMPS, u32::MAX]);
     let mut fields = match random.below(12) {
         0 => compose::filler(MOST_BYTES - 30 - random.below(30) as usize),
-        1 => vec![score::levels(LATEST_STAMP - random.below(8))],
+        1 => {
+            let kind = random.pick(&[score::levels, score::watch]);
+            vec![kind(LATEST_STAMP - random.below(8))]
+        }
         _ => vec![],
     };
     let mut buffer = vec![0; MOST_BYTES];

@@ -7,6 +7,7 @@ mod packs;
 mod replay;
 mod settling;
 mod sid;
+mod watches;
 mod waveforms;
 mod writer;
 

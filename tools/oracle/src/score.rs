@@ -12,11 +12,13 @@ pub const LATEST_STAMP: u32 = 100_000_000;
 pub const HEADER_BYTES: usize = 3;
 pub const STAMP_BYTES: usize = 4;
 
+/// From a `Watch` on, the bits that the bus loses are told.
 #[derive(Clone, Copy)]
 pub enum Event {
     Write { address: u8, value: u8 },
     Read { address: u8 },
     Levels,
+    Watch,
     End,
 }
 
@@ -43,6 +45,7 @@ impl Event {
             Event::Write { .. } => 0x01,
             Event::Read { .. } => 0x02,
             Event::Levels => 0x03,
+            Event::Watch => 0x04,
             Event::End => 0x7f,
         }
     }
@@ -57,7 +60,7 @@ impl Event {
         match self {
             Event::Write { address, value } => vec![address, value],
             Event::Read { address } => vec![address],
-            Event::Levels | Event::End => vec![],
+            Event::Levels | Event::Watch | Event::End => vec![],
         }
     }
 }
@@ -86,6 +89,11 @@ pub fn read(stamp: u32, address: u8) -> Field {
 
 pub fn levels(stamp: u32) -> Field {
     let event = Event::Levels;
+    Field { stamp, event }
+}
+
+pub fn watch(stamp: u32) -> Field {
+    let event = Event::Watch;
     Field { stamp, event }
 }
 
@@ -122,7 +130,7 @@ pub fn check(score: &[u8]) -> Result<Vec<Field>, Refused> {
         let due = match tag {
             0x01 => 6,
             0x02 => 5,
-            0x03 | 0x7f => 4,
+            0x03 | 0x04 | 0x7f => 4,
             _ => return refused(6),
         };
         let length = usize::from(u16::from_le_bytes([length_low, length_high]));
@@ -152,6 +160,7 @@ pub fn check(score: &[u8]) -> Result<Vec<Field>, Refused> {
             },
             0x02 => Event::Read { address: value[4] },
             0x03 => Event::Levels,
+            0x04 => Event::Watch,
             _ => Event::End,
         };
         fields.push(Field { stamp, event });
@@ -186,11 +195,15 @@ pub fn listing(score: &[u8], chip: &mut Mos6581) -> String {
 fn play(fields: &[Field], chip: &mut Mos6581) -> String {
     let mut lines = String::new();
     let mut clocks = 0;
+    let mut watched = false;
     chip.renew();
     for &Field { stamp, event } in fields {
         while clocks < stamp {
-            chip.tick();
+            let lost = chip.tick_losing();
             clocks += 1;
+            if watched && lost != 0 {
+                put(&mut lines, format_args!("F {clocks} {lost:02x}\n"));
+            }
         }
         match event {
             Event::Write { address, value } => chip.write(address.into(), value),
@@ -210,6 +223,7 @@ fn play(fields: &[Field], chip: &mut Mos6581) -> String {
                 }
                 lines.push('\n');
             }
+            Event::Watch => watched = true,
             Event::End => put(&mut lines, format_args!("E {clocks}\n")),
         }
     }

@@ -1,7 +1,7 @@
 //! Scores as text, as `fields` prints it and `write` takes it: a field a line, its name, stamp,
 //! address and value, one space between, decimal without sign or leading zero.
 
-use crate::score::{self, end, levels, read, write, Event, Field, MOST_BYTES};
+use crate::score::{self, end, levels, read, watch, write, Event, Field, MOST_BYTES};
 use crate::writer::Writer;
 
 /// Why a text gives no score.
@@ -29,6 +29,7 @@ pub fn line(field: &Field) -> String {
         Event::Write { address, value } => format!("write {stamp} {address} {value}"),
         Event::Read { address } => format!("read {stamp} {address}"),
         Event::Levels => format!("levels {stamp}"),
+        Event::Watch => format!("watch {stamp}"),
         Event::End => format!("end {stamp}"),
     }
 }
@@ -68,6 +69,7 @@ fn field(line: &[u8]) -> Option<Field> {
         [b"write", _, address, value] => write(stamp, byte(address)?, byte(value)?),
         [b"read", _, address] => read(stamp, byte(address)?),
         [b"levels", _] => levels(stamp),
+        [b"watch", _] => watch(stamp),
         [b"end", _] => end(stamp),
         _ => return None,
     })

@@ -2,7 +2,7 @@
 //!
 //! A record has 15 bytes, little endian: the call's number (its place in `Call`, from 0), its
 //! operand (u32), the byte it returned, and the state after it: value (u8), age (u32), next
-//! expiry (u32). What a call does not have is 0.
+//! expiry (u32). Clocks return the bits lost on the last of them. What a call does not have is 0.
 
 use crate::random::Random;
 use crate::sid::bus::InternalDataBus;
@@ -20,6 +20,7 @@ pub fn list() -> Vec<u8> {
     stand_still_at_zero(&mut recorder);
     fade_past_every_hold(&mut recorder, &mut random);
     renew_in_mid_fade(&mut recorder, &mut random);
+    lose_on_the_last_clock(&mut recorder);
     call_at_random(&mut recorder, &mut random);
     wear_out_the_age(&mut recorder);
     expire_early_or_late(&mut recorder, &mut random);
@@ -75,10 +76,8 @@ impl Recorder {
             ReadDriven(byte) => (2, byte.into(), bus.read_driven(byte)),
             ReadFloating => (3, 0, bus.read_floating()),
             Clock(clocks) => {
-                for _ in 0..clocks {
-                    bus.clock();
-                }
-                (4, clocks, 0)
+                let lost = (0..clocks).map(|_| bus.clock_losing()).last();
+                (4, clocks, lost.unwrap_or(0))
             }
             SetState(value, age, next_expiry) => {
                 *bus = InternalDataBus::from_state(value, age, next_expiry);
@@ -154,6 +153,38 @@ fn renew_in_mid_fade(recorder: &mut Recorder, random: &mut Random) {
                 };
                 recorder.make(&[Clock(first_expiry - 1), Clock(1), ReadFloating]);
             }
+        }
+    }
+}
+
+/// With no read on the way: to the clock before a loss and over it, to the loss in one go and a
+/// clock further. No clock is no loss, and what a call takes away on the clock before is not lost.
+fn lose_on_the_last_clock(recorder: &mut Recorder) {
+    let mut bytes: Vec<u8> = (0..8).map(|bit| 1 << bit).collect();
+    bytes.extend([0xff, 0x7e, 0xa5, 0x11]);
+    for byte in bytes {
+        let set = (0..8).filter(|bit| byte >> bit & 1 == 1);
+        for hold in set.map(|bit: usize| HOLDS[bit]) {
+            recorder.make(&[Drive(byte), Clock(hold - 1), Clock(1), Clock(0), Clock(1)]);
+            recorder.make(&[ReadDriven(byte), Clock(hold), Clock(0), Clock(1)]);
+            recorder.make(&[Drive(byte), Clock(hold + 1), Clock(1)]);
+        }
+    }
+    for (bit, hold) in HOLDS.into_iter().enumerate() {
+        for between in [
+            Drive(0),
+            Drive(!(1 << bit)),
+            ReadDriven(0),
+            Reset,
+            ReadFloating,
+        ] {
+            recorder.make(&[
+                Drive(1 << bit),
+                Clock(hold - 1),
+                between,
+                Clock(0),
+                Clock(1),
+            ]);
         }
     }
 }

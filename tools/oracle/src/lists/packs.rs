@@ -1,8 +1,9 @@
 //! The part of the list `sid` that plays over packs: calls on the whole chip, in order.
 
-use super::sid::{control, select_all, voice, ALL_STAGES, FLOAT_WHOLE, LEAK_INTERVAL, TEST};
+use super::sid::{control, lose_every_bit, select_all, voice};
+use super::sid::{ALL_STAGES, FLOAT_WHOLE, LEAK_INTERVAL, TEST};
 use crate::aim;
-use crate::calls::Call::{Code, Lengths, New, Pack, Read, Reset, Run, Tick, Watch};
+use crate::calls::Call::{Code, Lengths, New, Pack, Read, Reset, Run, Tick, Watch, Write};
 use crate::calls::{Pace, Recorder, Rule};
 use crate::random::Random;
 
@@ -14,12 +15,15 @@ const SELECTIONS: [u8; 11] = [3, 5, 6, 7, 9, 10, 11, 12, 13, 14, 15];
 
 pub fn play(recorder: &mut Recorder) {
     let mut random = Random::seeded(SEED);
-    recorder.make(&[New, Lengths(u16::MAX), Lengths(0)]);
+    // The next clock is one that loses a bit; one that is refused does not.
+    recorder.make(&[New, Write(0x1d, 0xff), Run(11)]);
+    recorder.make(&[Lengths(u16::MAX), Lengths(0), Tick(1)]);
     for rule in [Rule::Ones, Rule::Scatter, Rule::Fill, Rule::Turn] {
         recorder.make(&[Pack(rule)]);
         play_over_it(recorder, &mut random);
         if let Rule::Scatter | Rule::Turn = rule {
             float_and_recover(recorder);
+            lose_every_bit(recorder);
         }
     }
     // As it was filled, but for a block that no voice reads.

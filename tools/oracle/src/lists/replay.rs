@@ -4,9 +4,10 @@
 //! A score has its length (u32, little endian) before its bytes. In the listings each score has a
 //! line `score` and its number, from 0, before its own lines.
 
+use super::watches;
 use crate::compose::Composer;
 use crate::random::Random;
-use crate::score::{self, end, levels, read, write};
+use crate::score::{self, end, levels, read, watch, write};
 use crate::score::{Field, HEADER_BYTES, LATEST_STAMP, MOST_BYTES};
 use crate::sid::constants::DATA_BUS_HOLD_CYCLES as HOLDS;
 use crate::sid::sid::Mos6581;
@@ -44,7 +45,8 @@ pub fn listing_in_one(number: usize, listing: &str) -> String {
 
 fn all() -> Vec<Vec<u8>> {
     let mut scores = vec![worked_example(), Vec::new()];
-    scores.extend(accepted());
+    scores.extend(all_accepted(&accepted()));
+    scores.extend(all_accepted(&watches::scores()));
     scores.extend(aimed());
     scores.extend(refused_at_each_place());
     scores.extend(cut_before_each_byte());
@@ -66,7 +68,14 @@ fn worked_example() -> Vec<u8> {
     ])
 }
 
-fn accepted() -> Vec<Vec<u8>> {
+fn all_accepted(scores: &[Vec<Field>]) -> Vec<Vec<u8>> {
+    let scores = scores.iter().map(|fields| score::bytes_of(fields));
+    let scores: Vec<Vec<u8>> = scores.collect();
+    assert!(scores.iter().all(|score| score::check(score).is_ok()));
+    scores
+}
+
+fn accepted() -> Vec<Vec<Field>> {
     let mut scores = vec![vec![end(0)], vec![end(1)], vec![end(6_043)]];
     scores.push(vec![
         levels(6_042),
@@ -104,9 +113,6 @@ fn accepted() -> Vec<Vec<u8>> {
     scores.push(every_fade());
     scores.push(three_voices());
     scores.push(floating_code());
-    let scores = scores.iter().map(|fields| score::bytes_of(fields));
-    let scores: Vec<Vec<u8>> = scores.collect();
-    assert!(scores.iter().all(|score| score::check(score).is_ok()));
     scores
 }
 
@@ -124,7 +130,7 @@ fn every_address() -> Vec<Field> {
     fields
 }
 
-fn every_fade() -> Vec<Field> {
+pub fn every_fade() -> Vec<Field> {
     let mut holds = HOLDS;
     holds.sort_unstable();
     let mut fields = vec![write(0, 0x1d, 0xff)];
@@ -197,6 +203,7 @@ fn refused_at_each_place() -> Vec<Vec<u8>> {
         write(3, 0x01, 0x40),
         read(5, 0x1b),
         levels(5),
+        watch(6),
         write(9, 0x04, 0x21),
         end(12),
     ];
@@ -214,8 +221,11 @@ fn refused_at_each_place() -> Vec<Vec<u8>> {
             score[place + offset..][..bytes.len()].copy_from_slice(bytes);
             score
         };
-        for tag in [0x00, 0x04, 0x7e, 0x80, 0xff] {
-            scores.push(changed(0, &[tag]));
+        // Levels and watches are of one length.
+        for tag in [0x00, 0x03, 0x04, 0x05, 0x7e, 0x80, 0x84, 0xff] {
+            if tag != whole[place] {
+                scores.push(changed(0, &[tag]));
+            }
         }
         let length = whole[place + 1];
         for wrong in [
@@ -257,7 +267,14 @@ fn cut_before_each_byte() -> Vec<Vec<u8>> {
     let nothing = Vec::new();
     let before = levels(7).bytes();
     let mut scores = Vec::new();
-    for field in [write(7, 0x04, 0x11), read(7, 0x1b), levels(7), end(7)] {
+    let kinds = [
+        write(7, 0x04, 0x11),
+        read(7, 0x1b),
+        levels(7),
+        watch(7),
+        end(7),
+    ];
+    for field in kinds {
         let whole = field.bytes();
         let changed = |offset: usize, bytes: &[u8]| {
             let mut field = whole.clone();
@@ -274,6 +291,7 @@ fn cut_before_each_byte() -> Vec<Vec<u8>> {
             (&before, changed(HEADER_BYTES, &u32::MAX.to_le_bytes())),
             (&before, changed(HEADER_BYTES, &6u32.to_le_bytes())),
             (&write(7, 0x04, 0x11).bytes(), whole.clone()),
+            (&watch(7).bytes(), whole.clone()),
             (&end(7).bytes(), whole.clone()),
         ];
         for (before, field) in cases {
@@ -285,18 +303,26 @@ fn cut_before_each_byte() -> Vec<Vec<u8>> {
     scores
 }
 
-/// Each kind of access after each, on the clock before, the same clock and the one after, with levels
-/// between or without. An access that is below the field before, too, is refused for that.
+/// Each kind of access after each, on the clock before, the same clock and the one after, with
+/// levels or watches between or without. An access that is below the field before, too, is refused
+/// for that.
 fn two_accesses() -> Vec<Vec<u8>> {
     let kinds: [fn(u32) -> Field; 2] = [|at| write(at, 0x04, 0x11), |at| read(at, 0x1b)];
     let mut scores = Vec::new();
     for first in kinds {
         for second in kinds {
-            for between in [&[][..], &[0], &[0, 1]] {
+            let between: [&[fn(u32) -> Field]; 5] = [
+                &[],
+                &[levels],
+                &[watch],
+                &[levels, |at| levels(at + 1)],
+                &[watch, |at| watch(at + 1)],
+            ];
+            for between in between {
                 for stamp in [0, 1, 700, LATEST_STAMP] {
                     let before = first(stamp).bytes();
-                    let levels = between.iter().map(|later| levels(stamp + later));
-                    let before = [before, levels.flat_map(Field::bytes).collect()].concat();
+                    let others = between.iter().map(|other| other(stamp));
+                    let before = [before, others.flat_map(Field::bytes).collect()].concat();
                     for again in stamp.saturating_sub(1)..=stamp + 1 {
                         let mut score = [&before[..], &second(again).bytes()].concat();
                         // Without an end where it would have to be played for long.
@@ -315,7 +341,7 @@ fn two_accesses() -> Vec<Vec<u8>> {
 /// Two reasons at one place: the first in document 01's order is told.
 fn refused_for_the_first_reason() -> Vec<Vec<u8>> {
     let good = levels(7).bytes();
-    let twice: [&[u8]; 9] = [
+    let twice: [&[u8]; 14] = [
         // Header cut, tag unknown.
         &[0x55],
         &[0x55, 0x04],
@@ -324,9 +350,15 @@ fn refused_for_the_first_reason() -> Vec<Vec<u8>> {
         // Length wrong, value cut.
         &[0x01, 0x07, 0x00],
         &[0x03, 0xff, 0xff, 0x09],
+        &[0x04, 0x05, 0x00],
+        &[0x04, 0x00, 0x00],
         // Value cut, stamp too late or below the one before.
         &[0x01, 0x06, 0x00, 0xff, 0xff, 0xff, 0xff, 0x00],
         &[0x02, 0x05, 0x00, 0x00, 0x00, 0x00, 0x00],
+        &[0x04, 0x04, 0x00, 0xff, 0xff, 0xff],
+        // Length wrong, stamp too late or below the one before.
+        &[0x04, 0x05, 0x00, 0xff, 0xff, 0xff, 0xff, 0x00],
+        &[0x04, 0x06, 0x00, 0x00, 0x00, 0x00, 0x00, 0x00, 0x00],
         // Stamp too late or below the one before, bytes after the end.
         &[0x7f, 0x04, 0x00, 0xff, 0xff, 0xff, 0xff, 0x00],
         &[0x7f, 0x04, 0x00, 0x00, 0x00, 0x00, 0x00, 0x00],
@@ -341,13 +373,20 @@ fn refused_for_the_first_reason() -> Vec<Vec<u8>> {
 fn at_the_latest_stamp() -> Vec<Vec<u8>> {
     let mut scores = Vec::new();
     for stamp in [LATEST_STAMP, LATEST_STAMP + 1] {
-        for field in [write(stamp, 0x04, 0x11), read(stamp, 0x1b), levels(stamp)] {
+        let kinds = [
+            write(stamp, 0x04, 0x11),
+            read(stamp, 0x1b),
+            levels(stamp),
+            watch(stamp),
+        ];
+        for field in kinds {
             scores.push(field.bytes());
             let mut ended = score::bytes_of(&[levels(0), field, end(stamp)]);
             ended.push(0x7f);
             scores.push(ended);
         }
         scores.push([end(stamp).bytes(), vec![0x03]].concat());
+        scores.push([end(stamp).bytes(), watch(stamp).bytes()].concat());
         scores.push([end(LATEST_STAMP).bytes(), end(stamp).bytes()].concat());
     }
     scores

@@ -32,6 +32,7 @@ pub fn list() -> Vec<u8> {
     write_each_register_alone(&mut recorder, &mut random);
     keep_the_pots(&mut recorder, &mut random);
     fade_past_every_hold(&mut recorder);
+    lose_every_bit(&mut recorder);
     fall_from_fresh(&mut recorder);
     raise_and_drop_gates(&mut recorder);
     meet_the_sustain_level(&mut recorder);
@@ -207,6 +208,36 @@ fn fade_past_every_hold(recorder: &mut Recorder) {
     }
     for (bit, hold) in HOLDS.into_iter().enumerate() {
         recorder.make(&[Write(0x1e, 1 << bit), Run(hold - 1), Watch(0x1e, 2)]);
+    }
+}
+
+/// Each bit alone and all of them, on the second of three clocks. What a call takes away on the
+/// clock before is not lost, nor what it renews.
+pub fn lose_every_bit(recorder: &mut Recorder) {
+    for (bit, hold) in HOLDS.into_iter().enumerate() {
+        recorder.make(&[Write(0x1e, 1 << bit), Run(hold - 2)]);
+        recorder.make(&[Tick(1), Tick(1), Tick(1)]);
+    }
+    let mut holds = HOLDS;
+    holds.sort_unstable();
+    recorder.make(&[Write(0x1f, 0xff)]);
+    let mut elapsed = 0;
+    for hold in holds {
+        recorder.make(&[Run(hold - 2 - elapsed), Tick(3)]);
+        elapsed = hold + 1;
+    }
+    for between in [
+        Write(0x1d, 0x00),
+        Write(0x1d, 0x11),
+        Read(0x1a),
+        Read(0x1b),
+        Read(0x1d),
+        Reset,
+    ] {
+        for bit in [0, 4] {
+            let before = Run(HOLDS[bit] - 1);
+            recorder.make(&[Write(0x1e, 1 << bit), before, between, Tick(1), Tick(12)]);
+        }
     }
 }
 

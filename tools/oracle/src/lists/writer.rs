@@ -20,9 +20,10 @@
 use std::array;
 use std::fmt::Write as _;
 
-use crate::compose::Composer;
+use crate::compose::{self, Composer};
 use crate::random::Random;
-use crate::score::{self, end, levels, read, write, Field, LATEST_STAMP, MOST_BYTES};
+use crate::score::{self, end, levels, read, watch, write};
+use crate::score::{Field, LATEST_STAMP, MOST_BYTES};
 use crate::sid::sid::Mos6581;
 use crate::writer::Writer;
 
@@ -32,10 +33,12 @@ const COMPOSED_SCORES: u32 = 16;
 /// The greatest length of a buffer.
 pub const MOST_ROOM: usize = 66_000;
 
-const KINDS: [fn(u32) -> Field; 4] = [
+/// The two that are accesses first, the end last.
+const KINDS: [fn(u32) -> Field; 5] = [
     |stamp| write(stamp, 0x04, 0x11),
     |stamp| read(stamp, 0x1b),
     levels,
+    watch,
     end,
 ];
 
@@ -203,11 +206,12 @@ fn stamps_from_below() -> Vec<Calls> {
             let mut fields = vec![end(LIMITS[2]), end(u32::MAX)];
             fields.extend((last > 0).then(|| end(last - 1)));
             for (number, stamp) in stamps.into_iter().enumerate() {
-                let mut kinds = KINDS[..3].to_vec();
-                kinds.rotate_left(number % 3);
+                let mut kinds = KINDS[..4].to_vec();
+                kinds.rotate_left(number % 4);
                 fields.extend(kinds.iter().map(|kind| kind(stamp)));
             }
-            fields.extend([end(LIMITS[0]), end(LIMITS[1]), levels(LIMITS[1])]);
+            fields.extend([end(LIMITS[0]), end(LIMITS[1])]);
+            fields.extend([levels(LIMITS[1]), watch(LIMITS[1])]);
             let before = Writer {
                 last,
                 free,
@@ -219,16 +223,18 @@ fn stamps_from_below() -> Vec<Calls> {
     lists
 }
 
-/// Each kind after each, on the clock before, the same clock and the one after, with levels between
-/// or without.
+/// Each kind after each, on the clock before, the same clock and the one after, with levels or a
+/// watch between or without.
 fn two_fields() -> Vec<Calls> {
     let mut lists = Vec::new();
     for first in KINDS {
         for second in KINDS {
-            for between in [&[][..], &[0], &[0, 1]] {
+            let between: [&[fn(u32) -> Field]; 4] =
+                [&[], &[levels], &[watch], &[levels, |at| levels(at + 1)]];
+            for between in between {
                 for stamp in [0, 1, LATEST_STAMP] {
                     let mut fields = vec![first(stamp)];
-                    fields.extend(between.iter().map(|later| levels(stamp + later)));
+                    fields.extend(between.iter().map(|other| other(stamp)));
                     let again = stamp.saturating_sub(1)..=stamp + 1;
                     fields.extend(again.map(second));
                     fields.push(end(stamp + 1));
@@ -276,10 +282,12 @@ fn earlier_after_later() -> Vec<Calls> {
     let mut lists = Vec::new();
     for (refused, taken, left) in [
         (write(9, 0x04, 0x11), levels(3), 9),
+        (write(9, 0x04, 0x11), watch(3), 9),
         (read(9, 0x1b), end(4), 9),
         (write(20, 0x04, 0x11), read(10, 0x1b), 8),
         (write(20, 0x04, 0x11), end(3), 8),
         (read(20, 0x1b), levels(4), 7),
+        (read(20, 0x1b), watch(4), 7),
         (read(20, 0x1b), end(3), 7),
     ] {
         for room in [40, MOST_BYTES] {
@@ -404,7 +412,8 @@ fn every_byte() -> Vec<Calls> {
     let stamped = [0x0102_0304, 0x0403_0201, 0x05f5_e0ff, 0x05f5_e100];
     let stamped = stamped.iter().flat_map(|&stamp| {
         let value = !(stamp as u8);
-        [levels(stamp), write(stamp, 0xa5, value), end(stamp)]
+        let access = write(stamp, 0xa5, value);
+        [levels(stamp), access, watch(stamp), end(stamp)]
     });
     let stamped: Vec<Field> = stamped.collect();
     let mut lists = Vec::new();
@@ -413,19 +422,23 @@ fn every_byte() -> Vec<Calls> {
     }
     for number in 0..4 {
         let before = Writer::NEW;
-        lists.push(Calls::from(before, 60, stamped[3 * number..].to_vec()));
+        lists.push(Calls::from(before, 60, stamped[4 * number..].to_vec()));
     }
     lists
 }
 
-/// Scores with refused calls before every field and after the last: played as without them, or not
-/// to their end in a buffer that is too short.
+/// Scores, every second one watched, with refused calls before every field and after the last:
+/// played as without them, or not to their end in a buffer that is too short.
 fn composed() -> Vec<Calls> {
     let mut chip = Mos6581::new();
     let mut random = Random::seeded(SEED);
     let mut lists = Vec::new();
-    for _ in 0..COMPOSED_SCORES {
-        let score = Composer::new(&mut chip).aimed(6, 1_000, &mut random);
+    for number in 0..COMPOSED_SCORES {
+        let composer = Composer::new(&mut chip);
+        let score = match number % 2 {
+            0 => composer.aimed(6, 1_000, &mut random),
+            _ => compose::with_watches(composer.fading(6, 1_000, &mut random), &mut random),
+        };
         let whole = score::bytes_of(&score).len();
         let mut fields = Vec::new();
         let mut last = 0;

@@ -1,8 +1,16 @@
-/// Beside the original chip: its bus, its oscillators' cycles, whether their leaks come singly, its
-/// tables, which others may replace, and the chip made new but for them.
+/// Beside the original chip: its bus, a tick that tells what that loses, its oscillators' cycles,
+/// whether their leaks come singly, its tables, which others may replace, and the chip made new
+/// but for them.
 impl Mos6581 {
     pub fn bus(&self) -> &InternalDataBus {
         &self.data_bus
+    }
+
+    /// The bits that the bus lost on this clock. A floating read changes nothing.
+    pub fn tick_losing(&mut self) -> u8 {
+        let before = self.data_bus.read_floating();
+        self.tick();
+        before & !self.data_bus.read_floating()
     }
 
     pub fn cycles(&self) -> [u64; 3] {
