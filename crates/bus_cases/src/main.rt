@@ -1,18 +1,23 @@
 // Replays data/bus, the oracle's calls on one data bus: what each gave, and the whole state after it.
 // The list is made by tools/oracle: cargo run --release -- list bus
-// A record of 15 bytes: the call, its operand (4), the byte it gave; value, age (4) and next expiry (4) after it.
+// A record of 15 bytes: the call, its operand (4), the byte it gave, of clocks the bits that the last lost; value, age (4)
+// and next expiry (4) after it.
 use bus::DrivenRead;
 use bus::InternalDataBus;
 use cases::Tally;
 
-fn clocks(b: InternalDataBus, n: u32) -> InternalDataBus {
+// The bus after so many clocks, and the bits that the last of them lost.
+fn clocks(b: InternalDataBus, n: u32) -> DrivenRead {
     let mut x = b;
+    let mut byte: u8 = 0;
     let mut left = n;
     while 0 < left {
-        x = bus::lent_clock(x);
+        let clocked = bus::lent_clock(x);
+        x = clocked.bus;
+        byte = clocked.lost;
         left = left - 1;
     }
-    x
+    DrivenRead { bus: x, byte }
 }
 
 fn made(call: u8, operand: u32, b: InternalDataBus, after: InternalDataBus) -> DrivenRead {
@@ -31,10 +36,7 @@ fn made(call: u8, operand: u32, b: InternalDataBus, after: InternalDataBus) -> D
             bus: b,
             byte: bus::lent_read_floating(b),
         },
-        4 => DrivenRead {
-            bus: clocks(b, operand),
-            byte: 0,
-        },
+        4 => clocks(b, operand),
         _ => DrivenRead {
             bus: after,
             byte: 0,

@@ -15,6 +15,13 @@ struct Answered {
     answer: u64,
 }
 
+// What one clock gave: the outputs, or the refusal, and the bits that the bus lost.
+struct OneClock {
+    chip: Mos6581,
+    answer: u64,
+    lost: u8,
+}
+
 fn mixed(digest: u64, field: u64) -> u64 {
     let sum = std::num::wrapping_add_u64(digest, field);
     let spread = std::num::wrapping_add_u64(sum, sum << 10);
@@ -42,18 +49,19 @@ fn refusal(r: Refused) -> u64 {
     ((refusals::number(why) as u64) << 32) | (r.place as u64)
 }
 
-fn outputs(t: Ticked) -> Answered {
+fn outputs(t: Ticked) -> OneClock {
     let chip = t.chip;
     let code = codes(t.code_0, t.code_1, t.code_2);
     let level = levels(t.level_0, t.level_1, t.level_2);
-    Answered {
+    OneClock {
         chip,
         answer: code | level,
+        lost: t.lost,
     }
 }
 
 // One clock: by the engine over the pack, or by the plain one, whose number is 0.
-fn clocked(engine: u8, chip: Mos6581, pack: &[u16]) -> Answered {
+fn clocked(engine: u8, chip: Mos6581, pack: &[u16]) -> OneClock {
     if engine == 0 {
         return outputs(tick::tick(chip));
     }
@@ -65,9 +73,10 @@ fn clocked(engine: u8, chip: Mos6581, pack: &[u16]) -> Answered {
         Filled::Done => gave,
         Filled::Refused(why) => {
             let chip = gave.chip;
-            Answered {
+            OneClock {
                 chip,
                 answer: refusal(why),
+                lost: gave.lost,
             }
         }
     }
@@ -82,7 +91,7 @@ fn ticked(engine: u8, before: Mos6581, clocks: u32, pack: &[u16]) -> Answered {
         let gave = clocked(engine, chip, pack);
         let next = gave.chip;
         chip = next;
-        answer = mixed(answer, gave.answer);
+        answer = with_byte(mixed(answer, gave.answer), gave.lost);
         left = left - 1;
     }
     Answered { chip, answer }
@@ -99,7 +108,8 @@ fn watched(engine: u8, before: Mos6581, address: u16, clocks: u32, pack: &[u16])
         let r = next.read(address);
         let last = r.chip;
         chip = last;
-        answer = with_byte(mixed(answer, gave.answer), r.byte);
+        let told = with_byte(mixed(answer, gave.answer), gave.lost);
+        answer = with_byte(told, r.byte);
         left = left - 1;
     }
     Answered { chip, answer }
@@ -216,20 +226,23 @@ fn packed(rule: u8, pack: &mut [u16]) -> u64 {
 }
 
 // Whether a call was refused for the length of its pack, its chip as it was: no clock leaves the cycle alone.
-fn kept(chip: Mos6581, gave: Answered) -> bool {
-    let after = gave.chip;
+fn kept(chip: Mos6581, after: Mos6581, answer: u64) -> bool {
     if after.cycle != chip.cycle {
         return false;
     }
-    gave.answer == 15 << 32
+    answer == 15 << 32
 }
 
 // Whether a part is refused by each call that takes a pack.
 fn refused(chip: Mos6581, part: &mut [u16]) -> bool {
-    if !kept(chip, clocked(1, chip, part)) {
+    let tick = clocked(1, chip, part);
+    let ticked = tick.chip;
+    if !kept(chip, ticked, tick.answer) || tick.lost != 0 {
         return false;
     }
-    if !kept(chip, run(1, chip, 1, part)) {
+    let run = run(1, chip, 1, part);
+    let ran = run.chip;
+    if !kept(chip, ran, run.answer) {
         return false;
     }
     fill(part) == 15 << 32

@@ -26,4 +26,6 @@ outputs bits c = record {
 
 -- over a pack; 'state … as before', and so no bit lost, where it has not 45,056 entries
 unfoldable pub packTicked : List ℕ → Mos6581 → Ticked
-packTicked pack c = cond (eqb (length pack) packLength) (outputs (lost (c .«data_bus»)) (tickedBy (packed pack) c)) (outputs 0 c)
+packTicked pack c =
+    outputs (cond (eqb (length pack) packLength) (lost (c .«data_bus»)) 0)
+    (cond (eqb (length pack) packLength) (tickedBy (packed pack) c) c)

@@ -4,11 +4,11 @@
 
 mod original;
 
-use original::{GeneratedWaveShapes, Voices};
+use original::{GeneratedWaveShapes, Voices, DATA_BUS_HOLD_CYCLES};
 use std::hint::black_box;
 use std::process::ExitCode;
 
-// Crates `bench` and `bench_pack`; and of C, the processor time of this process in microseconds.
+// Crates `bench`, `bench_pack` and `bench_score`; and of C, the processor time of this process in microseconds.
 extern "C" {
     fn bench_idle(clocks: u64) -> u64;
     fn bench_run(control: u8, clocks: u64) -> u64;
@@ -20,6 +20,7 @@ extern "C" {
     fn bench_pack_ticks(control: u8, clocks: u64, pack: *const u16, length: usize) -> u64;
     fn bench_both_ticks(control: u8, clocks: u64) -> u64;
     fn bench_pack_writes(seed: u16, writes: u64, apart: u64, pack: *const u16, length: usize) -> u64;
+    fn bench_score(score: *const u8, bytes: usize, pack: *const u16, length: usize) -> u64;
     fn clock() -> i64;
 }
 
@@ -219,6 +220,51 @@ fn filling(rounds: u64, pack: &mut [u16]) -> [f64; 2] {
     least.map(|time| time as f64 / 1000.0)
 }
 
+/// A score that drives a byte of eight bits every so many clocks, watched or not.
+fn score(drives: u32, apart: u32, watched: bool) -> Vec<u8> {
+    let mut bytes = Vec::new();
+    let mut field = |tag: u8, stamp: u32, operands: &[u8]| {
+        bytes.extend([tag, 4 + operands.len() as u8, 0]);
+        bytes.extend(stamp.to_le_bytes());
+        bytes.extend(operands);
+    };
+    if watched {
+        field(0x04, 0, &[]);
+    }
+    for drive in 0..drives {
+        field(0x01, drive * apart, &[0x18, 0xff]);
+    }
+    field(0x7f, drives * apart, &[]);
+    bytes
+}
+
+/// How long the listing of such a score is: the end's line, and one for each bit of each byte.
+fn listed(drives: u32, apart: u32, watched: bool) -> u64 {
+    let end = format!("E {}\n", drives * apart).len();
+    let fades = (0..drives).flat_map(|drive| DATA_BUS_HOLD_CYCLES.map(|hold| drive * apart + hold));
+    let lines = fades.map(|clock| format!("F {clock} 80\n").len()).sum::<usize>();
+    (end + if watched { lines } else { 0 }) as u64
+}
+
+/// The same score unwatched and watched: the least ns a clock of each, and whether each has the listing that is due.
+fn watching(rounds: u64, pack: &[u16]) -> ([f64; 2], bool) {
+    const DRIVES: u32 = 100;
+    const APART: u32 = 1_000_000;
+    let mut least = [i64::MAX; 2];
+    let mut due = true;
+    for _ in 0..rounds {
+        for (watched, least) in [false, true].into_iter().zip(&mut least) {
+            let score = score(DRIVES, APART, watched);
+            let (length, time) = timed(|| unsafe {
+                bench_score(score.as_ptr(), score.len(), pack.as_ptr(), pack.len())
+            });
+            *least = time.min(*least);
+            due &= length == listed(DRIVES, APART, watched);
+        }
+    }
+    (least.map(|time| time as f64 * 1000.0 / f64::from(DRIVES * APART)), due)
+}
+
 fn main() -> ExitCode {
     let mut words = std::env::args().skip(1).map(|word| word.parse::<u64>());
     let rounds = words.next().map_or(9, |word| word.expect("rounds: a number"));
@@ -242,10 +288,13 @@ fn main() -> ExitCode {
         println!("{name:<32}{theirs:>10.1}{here:>8.1}{:>8.2}{aim:>8}", here / theirs);
     }
     println!("{:<32}{theirs:>10.1}{here:>8.1}{:>8.2}{:>8.2}", "pack filled, ms", here / theirs, 1.0);
-    if differ {
-        println!("what is heard DIFFERS");
+    let ([unwatched, watched], due) = watching(rounds, &pack);
+    println!("{:<32}{:>10}{:>8}{:>8}{:>8}", "", "unwatched", "watched", "ratio", "aim");
+    println!("{:<32}{unwatched:>10.1}{watched:>8.1}{:>8.2}{:>8.2}", "score of 100,000,000 clocks", watched / unwatched, 1.05);
+    if differ || !due {
+        println!("what is heard or listed DIFFERS");
         return ExitCode::FAILURE;
     }
-    println!("what is heard is equal in every scene");
+    println!("what is heard is equal in every scene, and what is listed is due");
     ExitCode::SUCCESS
 }

@@ -24,6 +24,7 @@ mod waveforms {
 use bus::InternalDataBus;
 use envelope::Envelope;
 use oscillator::Oscillator;
+pub use constants::DATA_BUS_HOLD_CYCLES;
 pub use waveforms::GeneratedWaveShapes;
 
 /// What `Mos6581` of the original is without converter and filter.

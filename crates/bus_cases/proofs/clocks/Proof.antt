@@ -4,10 +4,10 @@ use Rattle.bus_cases.proofs.clocks.Statement.{statement}
 use Rattle.bus_cases.proofs.clocks.Tie as tie
 
 abbrev Inv-loop : tie.InvT-loop
-Inv-loop n x₀ left₀ x left = Unit
+Inv-loop n x₀ byte₀ left₀ x byte left = Unit
 
 abbrev μ-loop : tie.MeasureT-loop
-μ-loop n x₀ left₀ x left = left
+μ-loop n x₀ byte₀ left₀ x byte left = left
 
 pub clocks-spec : {M : Type 1} → statement M
 clocks-spec =
