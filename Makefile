@@ -10,10 +10,11 @@ play:
 test:
 	@bash .ci/run
 
-# The bundled score anew from its text; `write`, which makes it, is proved and built first.
+# The bundled scores anew from their texts; `write`, which makes them, is proved and built first.
 scores:
 	rt check write
 	sh tools/score.sh scores/first_light.txt > scores/first_light
+	sh tools/score.sh scores/fading.txt > scores/fading
 
 # The oracle's lists anew, from the original in SID_SOURCE (tools/oracle/README.md).
 lists:

@@ -1,5 +1,5 @@
 #!/bin/sh
-# The programs `fields` and `write` in target/bin: the bundled score is what its text makes, and the same again from the
+# The programs `fields` and `write` in target/bin: a bundled score is what its text makes, and the same again from the
 # text of its fields; what is refused, and a line that is no field, is told alone, for what comes first in the text.
 set -eu
 cd "$(dirname "$0")/.."
@@ -14,8 +14,10 @@ said() {
   [ "$2" = "$3" ] || { echo "check_texts: $1: '$2', not '$3'"; status=1; }
 }
 
-sh tools/score.sh scores/first_light.txt | cmp - scores/first_light || status=1
-run fields < scores/first_light | run write | cmp - scores/first_light || status=1
+for score in scores/first_light scores/fading; do
+  sh tools/score.sh $score.txt | cmp - $score || status=1
+  run fields < $score | run write | cmp - $score || status=1
+done
 said 'a score cut' "$(dd if=crates/replay/stdin bs=38 count=1 2> /dev/null | run fields)" 'refused 12 at 38'
 said 'no score' "$(run fields < /dev/null)" 'refused 11 at 0'
 said 'after the end' "$(printf 'end 0\nend 0' | run write)" 'refused 10 at 7'

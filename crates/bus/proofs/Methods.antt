@@ -1,6 +1,6 @@
--- `reset`, `drive`, `read_driven` and `clock` leave a lent bus as the core's function says, `clock` gives the bits that
--- it lost, and `read_floating` the byte. A walk goes through the method's MIR, which is written out here, and is held to the method's own where it
--- is cited. Assumes nothing.
+-- `reset`, `drive`, `read_driven` and `clock` leave a lent bus as the core's function says, `clock` gives the bits
+-- that it lost, and `read_floating` the byte. A walk goes through the method's MIR, which is written out here, and is
+-- held to the method's own where it is cited. Assumes nothing.
 use mathlib.Core.Path.{_≡_, refl, ap}
 use Prim.Native.Nat.{ℕ, _<_, _^_}
 use mathlib.Core.List.{List, [], _∷_}

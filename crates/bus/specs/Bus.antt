@@ -53,8 +53,8 @@ clocked b = cond (eqb (b .value) 0) b (aged b (min (b .age + 1) (2 ^ 32 - 1)))
 abbrev pub clocks : ℕ → InternalDataBus → InternalDataBus
 clocks n b = times n clocked b
 
--- document 02, request 5, 'which bits it lost on this clock': the byte before it without the byte after it. A clock sets
--- no bit, so that the difference has exactly the bits that went (`lost-bit`).
+-- document 02, request 5, 'which bits it lost on this clock': the byte before it without the byte after it. A clock
+-- sets no bit, so that the difference has exactly the bits that went (`lost-bit`).
 unfoldable pub lost : InternalDataBus → ℕ
 lost b = b .value - clocked b .value
 

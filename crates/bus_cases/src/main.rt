@@ -1,7 +1,7 @@
 // Replays data/bus, the oracle's calls on one data bus: what each gave, and the whole state after it.
 // The list is made by tools/oracle: cargo run --release -- list bus
-// A record of 15 bytes: the call, its operand (4), the byte it gave, of clocks the bits that the last lost; value, age (4)
-// and next expiry (4) after it.
+// A record of 15 bytes: the call, its operand (4), the byte it gave, of clocks the bits that the last lost; value, age
+// (4) and next expiry (4) after it.
 use bus::DrivenRead;
 use bus::InternalDataBus;
 use cases::Tally;

@@ -143,8 +143,8 @@ Fades v c =
     (calls : List Call) (address : ℕ) → Each undriven calls → floating address ≡ true
     → readAt (after calls c) address .byte ≡ kept holds v (clocksOf calls)
 
--- The bits of v that a tick reports lost, after any calls with no drive or reset since v was driven (document 02, request
--- 5): bit k on the tick whose number is its hold, and on no other
+-- The bits of v that a tick reports lost, after any calls with no drive or reset since v was driven (document 02,
+-- request 5): bit k on the tick whose number is its hold, and on no other
 abbrev pub Loses : ℕ → Mos6581 → Type 0
 Loses v c =
     (calls : List Call) (k : ℕ) → Each undriven calls → k < 8

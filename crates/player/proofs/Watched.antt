@@ -1,6 +1,6 @@
--- From the first watch on each clock that loses bits has its line, in its place, and shows the bus of a fresh chip after
--- exactly as many ticks (`fade-shows`); fields without a watch print their own lines alone (`plain-listing`). Assumes
--- nothing.
+-- From the first watch on each clock that loses bits has its line, in its place, and shows the bus of a fresh chip
+-- after exactly as many ticks (`fade-shows`); fields without a watch print their own lines alone (`plain-listing`).
+-- Assumes nothing.
 use Prim.Native.Nat.{ℕ, _+_, _-_, _≤_, _<_}
 use native.Mathlib.Omega.{arith}
 use mathlib.Core.Bool.{Bool, true, false, _||_}

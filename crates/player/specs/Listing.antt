@@ -1,6 +1,6 @@
 -- What `replay` prints of a score: document 01, 'Score and program'; document 02, request 5.
--- A panel plays the fields of an accepted score one after the other, and each may print a line; so may each clock before
--- it, once the bus is watched.
+-- A panel plays the fields of an accepted score one after the other, and each may print a line; so may each clock
+-- before it, once the bus is watched.
 use Prim.Native.Nat.{ℕ, zero, suc, _+_, _-_}
 use mathlib.Core.Bool.{cond}
 use mathlib.Core.List.{List, [], _∷_, _++_}

@@ -39,8 +39,8 @@ shownBy t Watch c = []
 shownBy t End c = endLine t
 
 -- in a listing the line of f comes after those of the fields xs before it and of the bits that fade on the way to its
--- stamp, and shows a fresh chip after exactly as many ticks as f's stamp says, by document 01's ways, with the writes and
--- reads of xs in between
+-- stamp, and shows a fresh chip after exactly as many ticks as f's stamp says, by document 01's ways, with the writes
+-- and reads of xs in between
 pub record Shows (text : List ℕ) (xs : List Field) (f : Field) : Type 0 where
   pub rest : List ℕ
   pub stands : text ≡ play xs fresh ++ (watched (f .stamp) (played xs fresh) ++ (shownBy (f .stamp) (f .what) (afterBy afresh (callsTo 0 xs (f .stamp)) Sid·fresh) ++ rest))

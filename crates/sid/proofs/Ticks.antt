@@ -1,6 +1,6 @@
--- One tick of the chip, by any ways, out of its parts, which a loop may hold apart; ways that tick each voice alike tick
--- the chip alike (`chip-alike`), any number of times (`ticks-alike`) and in any run of calls (`after-alike`); ticks clock
--- the bus, and nothing else in them moves it (`ticks-bus`). Assumes nothing.
+-- One tick of the chip, by any ways, out of its parts, which a loop may hold apart; ways that tick each voice alike
+-- tick the chip alike (`chip-alike`), any number of times (`ticks-alike`) and in any run of calls (`after-alike`); ticks
+-- clock the bus, and nothing else in them moves it (`ticks-bus`). Assumes nothing.
 use mathlib.Core.Path.{_≡_, refl, ap, ap₂, sym, _∙_}
 use mathlib.Core.Bool.{Bool, true, false, cond}
 use mathlib.Core.List.{List, [], _∷_}

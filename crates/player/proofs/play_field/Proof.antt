@@ -1,5 +1,5 @@
--- `play_field` runs the panel to the field's stamp, does what the field says, and puts the lines of the bits that fade on
--- the way, then the field's own.
+-- `play_field` runs the panel to the field's stamp, does what the field says, and puts the lines of the bits that fade
+-- on the way, then the field's own.
 use borrow.Author.Needs.{needs}
 use native.Mathlib.Omega.{arith}
 use mathlib.Core.Path.{refl, sym}
