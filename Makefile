@@ -35,7 +35,7 @@ lists:
 compare:
 	cd tools/oracle && cargo build --release
 	tools/oracle/target/release/oracle compare-calls 1000 100000 1 sh tools/run.sh target/bin/sid_cases
-	tools/oracle/target/release/oracle compare-scores 7500 1 sh $(CURDIR)/tools/run.sh $(CURDIR)/target/bin/replay_cases
+	tools/oracle/target/release/oracle compare-scores 10500 1 sh $(CURDIR)/tools/run.sh $(CURDIR)/target/bin/replay_cases
 	tools/oracle/target/release/oracle compare-replay 20 1 sh tools/run.sh target/bin/replay
 	tools/oracle/target/release/oracle compare-writer 7500 1 sh tools/run.sh target/bin/writer_cases
 	tools/oracle/target/release/oracle compare-texts 300 1 sh tools/run.sh target/bin

@@ -1,7 +1,7 @@
 -- A clock loses exactly the bits that were set before it and are not after it (`lost-bit`); none goes before the next
 -- expiry (`none-lost`); after a drive each bit of the byte goes on the clock whose number is its hold (`lost-at-hold`).
 -- Assumes nothing.
-use Prim.Native.Nat.{ℕ, zero, suc, _+_, _*_, _-_, _/_, _%_, _^_, _≤_, _<_, min, max}
+use Prim.Native.Nat.{ℕ, zero, suc, _+_, _-_, _/_, _%_, _^_, _≤_, _<_, min, max}
 use native.Mathlib.Omega.{arith}
 use native.Mathlib.Nat.{pow-succ', div-one, zero-div, div-div-eq-div-mul, le-of-suc-le-suc}
 use native.Mathlib.Numerals.{add-one}
@@ -10,12 +10,12 @@ use mathlib.Core.List.{List, [], _∷_}
 use mathlib.Core.Bool.{Bool, true, false, cond}
 use lib.Dec.{ltb, eqb}
 use lib.ListN.{length, getD}
-use borrow.Author.Tests.{lt-ltb, le-ltb, eq-eqb, ne-eqb, ltb-true, ltb-false, eqb-true, eqb-false}
+use borrow.Author.Tests.{lt-ltb, le-ltb, eq-eqb, ltb-true, ltb-false, eqb-true, eqb-false}
 use Rattle.laws.specs.Times.{times}
 use Rattle.bus.specs.declared.InternalDataBus.{InternalDataBus}
 use Rattle.bus.specs.Bus.{holds, kept, nextExpiry, noExpiry, driven, aged, clocked, clocks, lost, toExpiry}
 use Rattle.bus.proofs.Kept.{cond-le, kept-le, kept-low, kept-half, kept-later, kept-bit}
-use Rattle.bus.proofs.Clock.{clocked-empty, clocked-before}
+use Rattle.bus.proofs.Clock.{clocked-before}
 use Rattle.bus.proofs.Fade.{byte-fades}
 
 -- ---- what is not kept of a byte

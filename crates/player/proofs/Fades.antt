@@ -4,10 +4,9 @@ use Prim.Native.Nat.{ℕ, zero, suc, _+_, _*_, _-_, _≤_, _<_}
 use native.Mathlib.Nat.{zero-add, suc-add}
 use native.Mathlib.Omega.{arith}
 use mathlib.Core.Bool.{Bool, true, false, cond}
-use mathlib.Core.List.{List, [], _∷_, _++_, append-nil, append-assoc}
+use mathlib.Core.List.{List, [], _++_, append-nil, append-assoc}
 use mathlib.Core.Path.{_≡_, refl, ap, ap₂, sym, subst, _∙_}
 use lib.Dec.{eqb}
-use lib.ListN.{length}
 use Rattle.laws.specs.Times.{times}
 use Rattle.laws.proofs.Times.{times-first}
 use Rattle.bus.specs.Bus.{clocked, clocks, lost}
@@ -20,7 +19,6 @@ use Rattle.panel.specs.declared.Leapt.{Leapt}
 use Rattle.panel.specs.declared.Panel.{Panel}
 use Rattle.panel.specs.Panel.{busOf, clockedBy, ranToBy, leap, leaptBy}
 use Rattle.panel.proofs.Leaps.{ran-none, ran-on, leap-more, leap-quiet, leap-lost, leap-fewer, leapt-le}
-use Rattle.sid.specs.declared.Mos6581.{Mos6581}
 use Rattle.sid.specs.Sid.{ticksBy}
 use Rattle.sid.proofs.Ticks.{tick-bus, ticks-bus}
 use Rattle.player.specs.Listing.{fadeOf, fadesBy, watchedBy}

@@ -5,7 +5,7 @@ use Prim.Native.Nat.{ℕ, _+_, _-_, _≤_, _<_}
 use native.Mathlib.Omega.{arith}
 use mathlib.Core.Bool.{Bool, true, false, _||_}
 use mathlib.Core.List.{List, [], _∷_, _++_, append-assoc}
-use mathlib.Core.Path.{_≡_, refl, ap, ap₂, sym, _∙_}
+use mathlib.Core.Path.{_≡_, refl, ap, ap₂, _∙_}
 use Rattle.laws.specs.Times.{times}
 use Rattle.bus.specs.Bus.{lost}
 use Rattle.calls.proofs.Leaks.{clocks-as-01}
@@ -18,8 +18,8 @@ use Rattle.score.specs.declared.What.the-variants.{Write, Read, Levels, Watch, 
 use Rattle.score.specs.Scores.{good, scoreOf}
 use Rattle.sid.specs.declared.Mos6581.{Mos6581}
 use Rattle.sid.specs.Sid.{clocksOf}
-use Rattle.player.specs.ScoreCalls.{callsTo, isWatch, watches, Fades, plain}
-use Rattle.player.specs.Listing.{lineOf, doneBy, atStamp, fadeOf, fades, watched, textBy, play, playBy, played, playedBy, listingOf, listing, listingBy}
+use Rattle.player.specs.ScoreCalls.{callsTo, isWatch, watches, ShowsFade, plain}
+use Rattle.player.specs.Listing.{lineOf, doneBy, atStamp, fadeOf, fades, watched, play, playBy, played, playedBy, listingOf, listing, listingBy}
 use Rattle.player.proofs.Clocks.{chip-called, clock-counts, stamp-clocks}
 use Rattle.player.proofs.Fades.{fades-join, clocks-ran, fade-one, unwatched, watched-fades}
 use Rattle.player.proofs.Lines.{play-join}
@@ -82,7 +82,7 @@ pub fade-shows
     → (clock : ℕ)
     → played xs fresh .clock ≤ clock
     → clock < f .stamp
-    → Fades (listing s) xs f clock
+    → ShowsFade (listing s) xs f clock
 unfolding listingBy playBy
 fade-shows s xs f ys e on clock h k =
     let m = stamp-clocks s xs f ys e in

@@ -1,6 +1,6 @@
 -- The calls that a score makes of its chip, and what its lines show of it: document 01,
 -- 'Stamp n means after exactly n clocks of a fresh chip'; document 02, request 5, 'From then on'.
-use Prim.Native.Nat.{ℕ, _+_, _-_, _≤_, _<_}
+use Prim.Native.Nat.{ℕ, _+_, _-_}
 use mathlib.Core.Bool.{Bool, true, false, _||_}
 use mathlib.Core.List.{List, [], _∷_, _++_}
 use mathlib.Core.Path.{_≡_}
@@ -60,7 +60,7 @@ watches (f ∷ fs) = isWatch (f .what) || watches fs
 
 -- a watch stands among the fields xs: on the way to f's stamp, after the lines of the clocks before it, stands what the
 -- clock after `clock` lost, of a fresh chip after exactly as many ticks, by document 01's ways
-pub record Fades (text : List ℕ) (xs : List Field) (f : Field) (clock : ℕ) : Type 0 where
+pub record ShowsFade (text : List ℕ) (xs : List Field) (f : Field) (clock : ℕ) : Type 0 where
   pub rest : List ℕ
   pub stands
       : text

@@ -4,7 +4,7 @@ use borrow.Author.Needs.{needs}
 use borrow.Author.Tests.{not-true, not-false}
 use native.Mathlib.Omega.{arith}
 use Prim.Native.Nat.{_-_}
-use mathlib.Core.Path.{_≡_, refl}
+use mathlib.Core.Path.{refl}
 use lib.Dec.{lit≤}
 use Rattle.pack.specs.Pack.{over}
 use Rattle.player.proofs.Fades.{unwatched, watched-fades, Watches, leap-less, watches-none, watches-room, watches-more, watches-all}

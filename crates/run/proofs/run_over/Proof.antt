@@ -6,7 +6,7 @@ use Rattle.oscillator.proofs.Due.{loading-still}
 use Rattle.sid.proofs.Turn.{fades, empty, parts, turn, judged, off, turned, round, ran}
 use Rattle.laws.proofs.After.{taken, left}
 use Rattle.laws.proofs.Bools.{or-left, or-right}
-use Rattle.sid.specs.Sid.{tickedBy, ticksBy}
+use Rattle.sid.specs.Sid.{ticksBy}
 use Rattle.sid.specs.declared.Voice.{Voice}
 use Rattle.sid.specs.declared.Mos6581.{Mos6581}
 use Rattle.envelope.specs.Envelope.{levelRead, rateClocked, quiescent}
@@ -20,7 +20,6 @@ use mathlib.Core.Bool.{Bool, true, not, _||_}
 use mathlib.Core.List.{List}
 use mathlib.Core.Logic.{⊎-elim}
 use mathlib.Core.Path.{_∙_, _≡_, ap, refl, sym}
-use native.Mathlib.Numerals.{add-one}
 use native.Mathlib.Omega.{arith}
 use denote.Ref.{now}
 use borrow.Author.Needs.{needs}

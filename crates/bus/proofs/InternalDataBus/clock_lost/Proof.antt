@@ -2,7 +2,6 @@
 use borrow.Author.Needs.{needs}
 use native.Mathlib.Omega.{arith}
 use mathlib.Core.Path.{ap}
-use Prim.Native.Nat.{_-_}
 use Rattle.bus.specs.declared.InternalDataBus.{InternalDataBus}
 use Rattle.bus.specs.Bus.{lost, busClock}
 use Rattle.bus.proofs.Lost.{clocked-le}
