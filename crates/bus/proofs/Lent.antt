@@ -1,6 +1,6 @@
 -- A bus by value that is lent to one of its methods comes back as the method leaves it, with the byte that the method
 -- gives. A walk goes through the MIR as in Methods.antt. Assumes nothing.
-use mathlib.Core.Path.{_≡_, refl, ap, ap₂, _∙_}
+use mathlib.Core.Path.{_≡_, refl, ap, _∙_}
 use Prim.Native.Nat.{ℕ, _<_, _^_}
 use mathlib.Core.List.{List, [], _∷_}
 use lib.Dec.{T as Holds}
@@ -37,14 +37,11 @@ use denote.Triple.Walked.{says, Stays, stay-none, walkOf, goes-none, ends-at}
 use denote.Exit.{yes}
 use Rattle.bus.specs.declared.InternalDataBus.{InternalDataBus}
 use Rattle.bus.specs.declared.DrivenRead.{DrivenRead}
-use Rattle.bus.specs.declared.BusClock.{BusClock}
-use Rattle.bus.specs.Bus.{fresh, driven, drivenRead, busClock}
+use Rattle.bus.specs.Bus.{fresh, driven, drivenRead, clocked}
 use Rattle.bus.proofs.InternalDataBus as T
 use Rattle.bus.proofs.InternalDataBus.Laws as T′
 use Rattle.bus.proofs.DrivenRead as D
 use Rattle.bus.proofs.DrivenRead.Laws as D′
-use Rattle.bus.proofs.BusClock as C
-use Rattle.bus.proofs.BusClock.Laws as C′
 use Rattle.bus.proofs.InternalDataBus.reset.Symbol as reset-def
 use Rattle.bus.proofs.InternalDataBus.reset.Met as reset-thm
 use Rattle.bus.proofs.InternalDataBus.clock.Symbol as clock-def
@@ -71,23 +68,13 @@ abbrev lending : Name → Body → Body
 lending f rest = seq (assign (place 2 []) (rvOpd (copy (place 1 [])))) (seq (assign (place 4 []) (addrOf (place 2 []))) (seq (call f (copy (place 4 []) ∷ []) (place 3 [])) rest))
 
 -- … `x`
-abbrev resets-bus : Fn
-resets-bus = record {
+abbrev lends-bus : Name → Ty → Fn
+lends-bus f τ = record {
   lifetimes = 0;
   outlives = [];
   params = 1;
-  locals = local T′.mir valueLocal ∷ local T′.mir valueLocal ∷ local T′.mir memorySlot ∷ local tyUnit valueLocal ∷ local (ref mut) valueLocal ∷ [];
-  body = lending reset-def.name (seq (assign (place 0 []) (rvOpd (copy (place 2 [])))) return);
-}
-
--- … `BusClock { bus: x, lost: y }`
-abbrev clocks-bus : Fn
-clocks-bus = record {
-  lifetimes = 0;
-  outlives = [];
-  params = 1;
-  locals = local C′.mir valueLocal ∷ local T′.mir valueLocal ∷ local T′.mir memorySlot ∷ local (tyInt w8) valueLocal ∷ local (ref mut) valueLocal ∷ local T′.mir valueLocal ∷ [];
-  body = lending clock-def.name (seq (assign (place 5 []) (rvOpd (copy (place 2 [])))) (seq (assign (place 0 []) (aggregate (copy (place 5 []) ∷ copy (place 3 []) ∷ []))) return));
+  locals = local T′.mir valueLocal ∷ local T′.mir valueLocal ∷ local T′.mir memorySlot ∷ local τ valueLocal ∷ local (ref mut) valueLocal ∷ [];
+  body = lending f (seq (assign (place 0 []) (rvOpd (copy (place 2 [])))) return);
 }
 
 -- `b.read_floating()`
@@ -204,64 +191,43 @@ module _ {M : Type 1} (𝓤 : URA M) (H : Heap 𝓤) (𝓜 : Model 𝓤 H) (𝓖
         (λ κs. (LL.vals T.the-type T′.the-laws, (uint-vals w8, tt))) (λ κs. (LL.tells T.the-type T′.the-laws, (uint-tells w8, tt))) (λ κs qs bounds a _ are. walk (a .0) (a .1 .0) (are .0) (are .1 .0 .1))
 
   -- ---- lent_reset and lent_clock, up to what follows the call: f gives u, and leaves the bus z
-  module _ (R : RattleType) (τ : Ty) (φ : InternalDataBus → R .Denot → InternalDataBus → Type 0) (storable : (u : R .Denot) (v : Val) → Is R u (v ∷ []) → Holds (hasTy τ v) × WT v)
-      (f : Name) (𝓣 : Tables 𝓤 H) (known : Triple 𝓤 (𝓣 .C f) (Changed R φ)) (h : InternalDataBus) (was : IsBus h (mach h)) where
-    abbrev to-lending : ℕ → ℕ → GName → Changed R φ .Ghost
-    to-lending α l δ = (((α ∷ [], tt), (fullShare, tt), tt, (at l 0 δ h, tt), (vptr l 0 ∷ [], tt)), tt)
+  module _ (R : RattleType) (τ : Ty) (φ : InternalDataBus → R .Denot → InternalDataBus → Type 0) (storable : (u : R .Denot) (v : Val) → Is R u (v ∷ []) → Holds (hasTy τ v) × WT v) where
+    abbrev to-lending : InternalDataBus → ℕ → ℕ → GName → Changed R φ .Ghost
+    to-lending h α l δ = (((α ∷ [], tt), (fullShare, tt), tt, (at l 0 δ h, tt), (vptr l 0 ∷ [], tt)), tt)
 
-    lending-walk : {l₀ l₁ l₂ l₃ l₄ : ℕ} {τ₀ : Ty} {E : Locals 𝓤 H} {Γ : List (Item 𝓤)} {rest : Body} {q : Post 𝓤 H}
+    lending-walk : (f : Name) (𝓣 : Tables 𝓤 H) → Triple 𝓤 (𝓣 .C f) (Changed R φ) → (h : InternalDataBus) → IsBus h (mach h)
+        → {l₀ l₁ l₂ l₃ l₄ : ℕ} {τ₀ : Ty} {E : Locals 𝓤 H} {Γ : List (Item 𝓤)} {rest : Body} {q : Post 𝓤 H}
         → ((u : R .Denot) (z : InternalDataBus) (v : Val) → Is R u (v ∷ []) → φ h u z → IsBus z (mach z)
         → Seq (Go {0}) W (‵ (fat fullShare T′.mir l₂ 0 (mach z)) ∷ ‵ (fat fullShare (ref mut) l₄ 0 (vptr l₂ 0)) ∷ ‵ (fdies (ref mut) l₄) ∷ ‵ (fat fullShare τ l₃ 0 v) ∷ ‵ (fdies τ l₃) ∷ ‵ (fdies T′.mir l₂) ∷ ‵ (fat fullShare T′.mir l₁ 0 (mach h)) ∷ ‵ (fdies T′.mir l₁) ∷ Γ)
         (runs (𝓣 .C) (𝓣 .Λ) ((τ₀, l₀) ∷ (T′.mir, l₁) ∷ (T′.mir, l₂) ∷ (τ, l₃) ∷ (ref mut, l₄) ∷ E) rest q))
         → Seq (Go {0}) W (‵ (froom (ref mut) l₄ 0) ∷ ‵ (fdies (ref mut) l₄) ∷ ‵ (froom τ l₃ 0) ∷ ‵ (fdies τ l₃) ∷ ‵ (froom T′.mir l₂ 0) ∷ ‵ (fdies T′.mir l₂) ∷ ‵ (fat fullShare T′.mir l₁ 0 (mach h)) ∷ ‵ (fdies T′.mir l₁) ∷ Γ)
         (runs (𝓣 .C) (𝓣 .Λ) ((τ₀, l₀) ∷ (T′.mir, l₁) ∷ (T′.mir, l₂) ∷ (τ, l₃) ∷ (ref mut, l₄) ∷ E) (lending f rest) q)
-    lending-walk {l₂ = l₂} k =
+    lending-walk f 𝓣 known h was {l₂ = l₂} k =
         assigns ! (of-opd ! (load ! (from ! (stop !)) (look ! 6 refl))) (from ! (stop !)) (init ! 4 refl (fits W was)) $ assigns ! (addr ! (from ! (stop !))) (from ! (stop !)) (init ! 0 refl (tt, tt)) $
         move ! (4 ∷ []) $ lends ! tt was (λ α δ. asks-lent ! [] tt tt tt tt $
         -- [what f asks; the lender's part; _4; …; room for _3; …; _2's end; _1; …]
-        calls-at ! (fmOf 𝓤 H (W .laws) 𝓣) (Changed R φ) known (to-lending α l₂ δ) (and-then ! (load ! (from ! (stop !)) (look ! 2 refl)) (no-more !)) (λ v.
+        calls-at ! (fmOf 𝓤 H (W .laws) 𝓣) (Changed R φ) known (to-lending h α l₂ δ) (and-then ! (load ! (from ! (stop !)) (look ! 2 refl)) (no-more !)) (λ v.
         answered ! tt v R (InternalDataBus × Unit {0}) (‵ (flft (α ∷ []) fullShare) ⊛ ‵ ftrue) (lasts (changes R) (α ∷ [], tt) (at l₂ 0 δ h, tt)) (λ u zs. φ h u (zs .0)) (λ u zs is e. split ! $ move ! (2 ∷ []) $ fsplit ! $
         -- [the last value; true; the token; true; the lender's part; _4; …; room for _3; …; _2's end; _1; …]
         land ! (from ! (stop !)) (init ! 7 refl (storable u v is)) $ move ! (2 ∷ 4 ∷ 0 ∷ []) $ back ! tt (zs .0) (λ left. move ! (1 ∷ 2 ∷ []) $ drop ! $ drop ! $ k u (zs .0) v is e left))))
 
-  resets-bus-walk : (𝓣 : Tables 𝓤 H) → Triple 𝓤 (𝓣 .C reset-def.name) (Changed unit Fresh) → Triple 𝓤 (WpFn 𝓤 H (𝓣 .C) (𝓣 .Λ) resets-bus) (One T.the-row (λ _ r. r ≡ fresh))
-  resets-bus-walk 𝓣 known = one-meets T.the-row (λ _ r. r ≡ fresh) resets-bus 𝓣 (λ h was.
-      qed W (‵ ftrue ∷ ‵ (owns (T.the-row ∷ []) (h, tt) (one-at h)) ∷ []) ∵ enter ! (𝓣 .C) (𝓣 .Λ) resets-bus (mach h ∷ []) _ $
-      alloc1 ! (λ l₀. alloc1 ! (λ l₁. alloc1 ! (λ l₂. alloc1 ! (λ l₃. alloc1 ! (λ l₄. alloc0 ! $ params1 ! $ pass1 ! (init ! 6 refl (fits W was)) $ pass0 ! $
-      lending-walk unit tyUnit Fresh (λ u v is. nothing-lawful 𝓤 H A W .typed u _ is .0) reset-def.name 𝓣 known h was (λ u z v _ e is.
-      -- [_2; _4; …; _3; …; _2's end; _1; …; room for _0; …; true; what b owns]
-      assigns ! (of-opd ! (load ! (from ! (stop !)) (look ! 0 refl))) (from ! (stop !)) (init ! 8 refl (fits W is)) $ returns ! (look ! 8 refl) $
-      keep ! (8 ∷ 9 ∷ 6 ∷ 7 ∷ 0 ∷ 5 ∷ 3 ∷ 4 ∷ 1 ∷ 2 ∷ 11 ∷ []) $ freed ! $ freed ! $ freed ! $ freed ! $ freed ! $ free0 ! $ by ! (one-exits T.the-row (λ _ r. r ≡ fresh) h z _ e (bus-makes 𝓤 H A) is))))))))
+    -- the bus alone, g of what it was
+    lends-bus-walk : (g : InternalDataBus → InternalDataBus) → ((h : InternalDataBus) (u : R .Denot) (z : InternalDataBus) → φ h u z → z ≡ g h) → (f : Name) (𝓣 : Tables 𝓤 H) → Triple 𝓤 (𝓣 .C f) (Changed R φ) → Triple 𝓤 (WpFn 𝓤 H (𝓣 .C) (𝓣 .Λ) (lends-bus f τ)) (One T.the-row (λ h r. r ≡ g h))
+    lends-bus-walk g right f 𝓣 known = one-meets T.the-row (λ h r. r ≡ g h) (lends-bus f τ) 𝓣 (λ h was.
+        qed W (‵ ftrue ∷ ‵ (owns (T.the-row ∷ []) (h, tt) (one-at h)) ∷ []) ∵ enter ! (𝓣 .C) (𝓣 .Λ) (lends-bus f τ) (mach h ∷ []) _ $
+        alloc1 ! (λ l₀. alloc1 ! (λ l₁. alloc1 ! (λ l₂. alloc1 ! (λ l₃. alloc1 ! (λ l₄. alloc0 ! $ params1 ! $ pass1 ! (init ! 6 refl (fits W was)) $ pass0 ! $
+        lending-walk f 𝓣 known h was (λ u z v _ e is.
+        -- [_2; _4; …; _3; …; _2's end; _1; …; room for _0; …; true; what b owns]
+        assigns ! (of-opd ! (load ! (from ! (stop !)) (look ! 0 refl))) (from ! (stop !)) (init ! 8 refl (fits W is)) $ returns ! (look ! 8 refl) $
+        keep ! (8 ∷ 9 ∷ 6 ∷ 7 ∷ 0 ∷ 5 ∷ 3 ∷ 4 ∷ 1 ∷ 2 ∷ 11 ∷ []) $ freed ! $ freed ! $ freed ! $ freed ! $ freed ! $ free0 ! $ by ! (one-exits T.the-row (λ h r. r ≡ g h) h z _ (right h u z e) (bus-makes 𝓤 H A) is))))))))
 
-  pub lent-reset-meets : Met 𝓤 H 𝓜 𝓡 resets-bus reset-def.name reset-def.routine (One T.the-row (λ _ r. r ≡ fresh))
-  lent-reset-meets = calling 𝓤 H 𝓜 𝓡 resets-bus reset-def.name reset-def.routine (One T.the-row (λ _ r. r ≡ fresh)) (Changed unit Fresh) (reset-thm.met 𝓤 H 𝓜 𝓖 𝓡) resets-bus-walk
+  pub lent-reset-meets : Met 𝓤 H 𝓜 𝓡 (lends-bus reset-def.name tyUnit) reset-def.name reset-def.routine (One T.the-row (λ _ r. r ≡ fresh))
+  lent-reset-meets = calling 𝓤 H 𝓜 𝓡 (lends-bus reset-def.name tyUnit) reset-def.name reset-def.routine (One T.the-row (λ _ r. r ≡ fresh)) (Changed unit Fresh) (reset-thm.met 𝓤 H 𝓜 𝓖 𝓡)
+      (lends-bus-walk unit tyUnit Fresh (λ u v is. nothing-lawful 𝓤 H A W .typed u _ is .0) (λ _. fresh) (λ _ _ _ e. e) reset-def.name)
 
-  abbrev clock : ℕ → InternalDataBus → BusClock
-  clock n z = record { bus = z; lost = n }
-
-  is-clock : (n : ℕ) (z : InternalDataBus) → n < 2 ^ 8 → IsBus z (mach z) → Is C.the-row (clock n z) (LL.vals C.the-type C′.the-laws (clock n z))
-  is-clock n z ok is = LL.owes C.the-type C′.the-laws (clock n z) (is, ((refl, ok), tt))
-
-  clock-is : (h : InternalDataBus) (n : ℕ) (z : InternalDataBus) → Clocked h n z → clock n z ≡ busClock h
-  unfolding busClock
-  clock-is h n z e = ap₂ clock (e .0) (e .1)
-
-  clocks-bus-walk : (𝓣 : Tables 𝓤 H) → Triple 𝓤 (𝓣 .C clock-def.name) (Changed u8 Clocked) → Triple 𝓤 (WpFn 𝓤 H (𝓣 .C) (𝓣 .Λ) clocks-bus) (One C.the-row (λ h r. r ≡ busClock h))
-  clocks-bus-walk 𝓣 known = one-meets C.the-row (λ h r. r ≡ busClock h) clocks-bus 𝓣 (λ h was.
-      qed W (‵ ftrue ∷ ‵ (owns (T.the-row ∷ []) (h, tt) (one-at h)) ∷ []) ∵ enter ! (𝓣 .C) (𝓣 .Λ) clocks-bus (mach h ∷ []) _ $
-      alloc1 ! (λ l₀. alloc1 ! (λ l₁. alloc1 ! (λ l₂. alloc1 ! (λ l₃. alloc1 ! (λ l₄. alloc1 ! (λ l₅. alloc0 ! $ params1 ! $ pass1 ! (init ! 8 refl (fits W was)) $ pass0 ! $
-      -- room for _5 goes behind what the call needs
-      move ! (2 ∷ 3 ∷ 4 ∷ 5 ∷ 6 ∷ 7 ∷ 8 ∷ 9 ∷ []) $
-      lending-walk u8 (tyInt w8) Clocked (λ u v is. uint-lawful 𝓤 H A W w8 .typed u _ is .0) clock-def.name 𝓣 known h was (λ u z v byte e is.
-      -- [_2; _4; …; _3; …; _2's end; _1; …; room for _5; …; room for _0; …; true; what b owns]
-      rewrite ! 3 (λ (y : Val). ‵ (fat fullShare (tyInt w8) l₃ 0 y)) (ap only (byte .0)) refl $
-      assigns ! (of-opd ! (load ! (from ! (stop !)) (look ! 0 refl))) (from ! (stop !)) (init ! 8 refl (fits W is)) $
-      assigns ! (agg ! (and-then ! (load ! (from ! (stop !)) (look ! 8 refl)) (and-then ! (load ! (from ! (stop !)) (look ! 3 refl)) (no-more !)))) (from ! (stop !)) (init ! 10 refl (LL.lawful C.the-type C′.the-laws 𝓤 H A W .typed (clock u z) _ (is-clock u z (byte .1) is) .0)) $
-      returns ! (look ! 10 refl) $ keep ! (10 ∷ 11 ∷ 6 ∷ 7 ∷ 0 ∷ 5 ∷ 3 ∷ 4 ∷ 1 ∷ 2 ∷ 8 ∷ 9 ∷ 13 ∷ []) $ freed ! $ freed ! $ freed ! $ freed ! $ freed ! $ freed ! $ free0 ! $
-      by ! (one-exits C.the-row (λ h r. r ≡ busClock h) h (clock u z) _ (clock-is h u z e) (LL.makes C.the-type C′.the-plain 𝓤 H A) (is-clock u z (byte .1) is))))))))))
-
-  pub lent-clock-meets : Met 𝓤 H 𝓜 𝓡 clocks-bus clock-def.name clock-def.routine (One C.the-row (λ h r. r ≡ busClock h))
-  lent-clock-meets = calling 𝓤 H 𝓜 𝓡 clocks-bus clock-def.name clock-def.routine (One C.the-row (λ h r. r ≡ busClock h)) (Changed u8 Clocked) (clock-thm.met 𝓤 H 𝓜 𝓖 𝓡) clocks-bus-walk
+  pub lent-clock-meets : Met 𝓤 H 𝓜 𝓡 (lends-bus clock-def.name (tyInt w8)) clock-def.name clock-def.routine (One T.the-row (λ h r. r ≡ clocked h))
+  lent-clock-meets = calling 𝓤 H 𝓜 𝓡 (lends-bus clock-def.name (tyInt w8)) clock-def.name clock-def.routine (One T.the-row (λ h r. r ≡ clocked h)) (Changed u8 Clocked) (clock-thm.met 𝓤 H 𝓜 𝓖 𝓡)
+      (lends-bus-walk u8 (tyInt w8) Clocked (λ u v is. uint-lawful 𝓤 H A W w8 .typed u _ is .0) clocked (λ _ _ _ e. e .1) clock-def.name)
 
   -- ---- lent_read_floating
   abbrev to-floating : InternalDataBus → ℕ → ℕ → GName → Floating .Ghost

@@ -79,11 +79,6 @@ unfolding times
 clocks-le zero b = omega arith
 clocks-le (suc n) b = omega (arith, clocks-le n b, clocked-le (clocks n b))
 
--- an empty bus has no bit to lose
-pub empty-loses : (b : InternalDataBus) → b .value ≡ 0 → lost b ≡ 0
-unfolding lost
-empty-loses b z = omega arith
-
 -- bit k is lost exactly if it was set before the clock and is not after it
 pub lost-bit
     : (b : InternalDataBus) (k : ℕ)

@@ -228,10 +228,10 @@ pub fn lent_read_floating(b: InternalDataBus) -> u8
     b.read_floating()
 }
 
-pub fn lent_clock(b: InternalDataBus) -> BusClock
-    ensures { λ r. ⌜ r ≡ busClock b ⌝ }
+pub fn lent_clock(b: InternalDataBus) -> InternalDataBus
+    ensures { λ r. ⌜ r ≡ clocked b ⌝ }
 {
     let mut x = b;
-    let lost = x.clock();
-    BusClock { bus: x, lost }
+    x.clock();
+    x
 }

@@ -12,7 +12,7 @@ fn clocks(b: InternalDataBus, n: u32) -> DrivenRead {
     let mut byte: u8 = 0;
     let mut left = n;
     while 0 < left {
-        let clocked = bus::lent_clock(x);
+        let clocked = x.clock_lost();
         x = clocked.bus;
         byte = clocked.lost;
         left = left - 1;

@@ -87,7 +87,7 @@ pub fn run_over(chip: Mos6581, n: u64, pack: &[u16]) -> Mos6581
     while i < n {
         // the bus
         if data_bus.value != 0 {
-            data_bus = data_bus.clocked();
+            data_bus = bus::lent_clock(data_bus);
         }
         // the cycle
         cycle = std::num::wrapping_add_u64(cycle, 1);

@@ -15,13 +15,13 @@ use Rattle.tick.specs.declared.Ticked.{Ticked}
 unfoldable pub outputs : ℕ → Mos6581 → Ticked
 outputs bits c = record {
   chip = c;
-  lost = bits;
   «code_0» = codeOf (c .«voice_0»);
   «code_1» = codeOf (c .«voice_1»);
   «code_2» = codeOf (c .«voice_2»);
   «level_0» = levelOf (c .«voice_0»);
   «level_1» = levelOf (c .«voice_1»);
   «level_2» = levelOf (c .«voice_2»);
+  lost = bits;
 }
 
 -- over a pack; 'state … as before', and so no bit lost, where it has not 45,056 entries

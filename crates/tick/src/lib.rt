@@ -16,16 +16,16 @@ ghost use Rattle.sid.specs.Sid.{ticked, tickedBy};
 ghost use Rattle.pack.specs.Pack.{refusal, over};
 ghost use Rattle.tick.specs.Outputs.{outputs, packTicked};
 
-// What a tick gives: the chip after it, the bits that its data bus lost, the codes and the levels of its voices.
+// What a tick gives: the chip after it, the codes and the levels of its voices, and the bits that its data bus lost.
 pub struct Ticked {
     pub chip: Mos6581,
-    pub lost: u8,
     pub code_0: u16,
     pub code_1: u16,
     pub code_2: u16,
     pub level_0: u8,
     pub level_1: u8,
     pub level_2: u8,
+    pub lost: u8,
 }
 
 // What a tick over a pack gives: where it is refused, the chip as it was.
@@ -47,13 +47,13 @@ pub fn tick_packed(chip: Mos6581, pack: &[u16]) -> PackTicked
     if pack.len() != pack::LENGTH {
         let ticked = Ticked {
             chip,
-            lost: 0,
             code_0: chip.voice_0.oscillator.tone.last_sample,
             code_1: chip.voice_1.oscillator.tone.last_sample,
             code_2: chip.voice_2.oscillator.tone.last_sample,
             level_0: chip.voice_0.envelope.volume,
             level_1: chip.voice_1.envelope.volume,
             level_2: chip.voice_2.envelope.volume,
+            lost: 0,
         };
         return PackTicked {
             ticked,
@@ -99,12 +99,11 @@ pub fn tick_over(chip: Mos6581, pack: &[u16]) -> Ticked
     let mut lines_2 = chip.voice_2.oscillator.bus.charge;
     let mut envelope_2 = chip.voice_2.envelope;
     // the bus
-    let mut lost: u8 = 0;
+    let before = data_bus.value;
     if data_bus.value != 0 {
-        let clocked = bus::lent_clock(data_bus);
-        data_bus = clocked.bus;
-        lost = clocked.lost;
+        data_bus = bus::lent_clock(data_bus);
     }
+    let lost = before - data_bus.value;
     // the cycle
     let cycle = std::num::wrapping_add_u64(chip.cycle, 1);
     // three phases, with the noise registers that they clock
@@ -295,12 +294,12 @@ pub fn tick_over(chip: Mos6581, pack: &[u16]) -> Ticked
     };
     Ticked {
         chip: after,
-        lost,
         code_0: tone_0.last_sample,
         code_1: tone_1.last_sample,
         code_2: tone_2.last_sample,
         level_0: envelope_0.volume,
         level_1: envelope_1.volume,
         level_2: envelope_2.volume,
+        lost,
     }
 }

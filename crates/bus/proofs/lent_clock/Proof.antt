@@ -1,5 +1,4 @@
--- `lent_clock` is a bus by value after one clock beside the bits that went: the walk in Lent.antt of a bus lent to
--- `clock`.
+-- `lent_clock` is a bus by value after one clock: the walk in Lent.antt of a bus lent to `clock`.
 use Rattle.bus.proofs.Lent.{lent-clock-meets}
 use Rattle.bus.proofs.lent_clock.Key.{name}
 use Rattle.bus.proofs.lent_clock.Statement.{statement}

@@ -123,7 +123,7 @@ loop-again c =
     (l .floating-2) (l .lines-2) (l .envelope-2) in
     let voice-0 =
     turn still from-0 _ _
-    (steps-0 .before .before .before .clocked2 .ensures) (steps-0 .before .before .rising .ensures)
+    (steps-0 .before .before .before .clocked .ensures) (steps-0 .before .before .rising .ensures)
     (steps-0 .before .step-due .ensures)
     (⊎-elim (λ w. taken (w .0 .taken) (same-generator (w .4) (w .5) (w .6) ∙ w .3 .ensures))
     (λ w. left (w .0 .left) (same-generator (w .1) (w .2) (w .3))) (steps-0 .if2 .came))
@@ -143,7 +143,7 @@ loop-again c =
     (λ w. left (w .0 .left) (same-generator (w .1) (w .2) (w .3))) (pulls-0 .if12 .came)) in
     let voice-1 =
     turn still from-1 _ _
-    (steps-1 .before .before .before .clocked3 .ensures) (steps-1 .before .before .rising2 .ensures)
+    (steps-1 .before .before .before .clocked2 .ensures) (steps-1 .before .before .rising2 .ensures)
     (steps-1 .before .step-due2 .ensures)
     (⊎-elim (λ w. taken (w .0 .taken) (same-generator (w .4) (w .5) (w .6) ∙ w .3 .ensures))
     (λ w. left (w .0 .left) (same-generator (w .1) (w .2) (w .3))) (steps-1 .if3 .came))
@@ -163,7 +163,7 @@ loop-again c =
     (λ w. left (w .0 .left) (same-generator (w .1) (w .2) (w .3))) (pulls-1 .if17 .came)) in
     let voice-2 =
     turn still from-2 _ _
-    (steps-2 .before .before .before .clocked4 .ensures) (steps-2 .before .before .rising3 .ensures)
+    (steps-2 .before .before .before .clocked3 .ensures) (steps-2 .before .before .rising3 .ensures)
     (steps-2 .before .step-due3 .ensures)
     (⊎-elim (λ w. taken (w .0 .taken) (same-generator (w .4) (w .5) (w .6) ∙ w .3 .ensures))
     (λ w. left (w .0 .left) (same-generator (w .1) (w .2) (w .3))) (steps-2 .if4 .came))
@@ -186,7 +186,7 @@ loop-again c =
       turned (over pack) start (l .i)
           (round (over pack) (l .cycle) from-0 from-1 from-2
           (⊎-elim (λ w. fades (w .2 ∙ w .1 .ensures)) (λ w. empty (w .0 .left) (w .1)) (bus .if1 .came))
-          (cycle .wrapping-add-u64 .ensures) voice-0 voice-1 voice-2 (steps-2 .before .before .before .clocked4 .ensures)
+          (cycle .wrapping-add-u64 .ensures) voice-0 voice-1 voice-2 (steps-2 .before .before .before .clocked3 .ensures)
           (⊎-elim (λ w. judged (w .4 ∙ w .3 .ensures) (w .5 ∙ w .1 .ensures) (w .6 ∙ w .2 .ensures))
           (λ w.
           let lower = or-left (s0 || s1) s2 (w .0 .left) in

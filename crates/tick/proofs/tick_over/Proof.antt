@@ -3,26 +3,37 @@
 -- rests and steps. Assumes nothing.
 use Rattle.sid.proofs.Ticks.{same-generator, same-lines}
 use Rattle.oscillator.proofs.Due.{loading-still}
-use Rattle.sid.proofs.Turn.{fades, empty, turn, judged, round}
-use Rattle.bus.specs.Bus.{busClock}
-use Rattle.bus.specs.declared.BusClock.{BusClock}
-use Rattle.bus.proofs.Lost.{empty-loses}
+use Rattle.sid.proofs.Turn.{fades, empty, faded, turn, judged, round}
+use Rattle.bus.specs.Bus.{lost}
+use Rattle.bus.specs.declared.InternalDataBus.{InternalDataBus}
+use Rattle.bus.proofs.Lost.{clocked-le}
 use Rattle.laws.proofs.After.{taken, left}
 use Rattle.sid.specs.declared.Mos6581.{Mos6581}
 use Rattle.pack.specs.Pack.{loadedOver, over}
 use Rattle.pack.proofs.Lookup.{entry-read, entry-lacks}
 use Rattle.tick.specs.Outputs.{outputs}
-use Prim.Native.Nat.{ℕ}
+use Prim.Native.Nat.{ℕ, _-_}
+use native.Mathlib.Omega.{arith}
 use mathlib.Core.List.{List}
 use mathlib.Core.Logic.{⊎-elim}
-use mathlib.Core.Path.{_∙_, ap, ap₂, sym}
+use mathlib.Core.Path.{_∙_, ap, ap₂}
 use denote.Ref.{now}
 use borrow.Author.Needs.{needs}
 use Rattle.tick.proofs.tick_over.Statement.{statement}
 use Rattle.tick.proofs.tick_over.Tie as tie
 
+-- a clock sets no bit
+sub-lost : tie.Need-sub-lost
+sub-lost c =
+    let bus = c .before in
+    let start : Mos6581 =
+    bus .before .before .before .before .before .before .before .before .before .before .before .before .before .before .before
+    .before .before .before .before .before .before .before .before .before .before .before .before .before .args .chip in
+    let moved = faded (⊎-elim (λ w. fades (w .2 ∙ w .1 .ensures)) (λ w. empty (w .0 .left) (w .1)) (bus .if1 .came)) in
+    omega (arith, clocked-le (start .«data_bus»), ap (λ (b : InternalDataBus). b .value) moved)
+
 returns : tie.Need-returns
-unfolding outputs busClock
+unfolding outputs lost
 returns c =
     let pulls-2 = c .before .before .before in
     let couples-2 = pulls-2 .before .before in
@@ -43,7 +54,7 @@ returns c =
     let steps-1 = steps-2 .before .before .before .before in
     let steps-0 = steps-1 .before .before .before .before in
     let cycle = steps-0 .before .before .before .before in
-    let bus = cycle .before in
+    let bus = cycle .before .before in
     let args =
     bus .before .before .before .before .before .before .before .before .before .before .before .before .before .before .before
     .before .before .before .before .before .before .before .before .before .before .before .before .before .args in
@@ -110,10 +121,11 @@ returns c =
     (pulls-2 .before .pulls-down3 .ensures)
     (⊎-elim (λ w. taken (w .0 .taken) (same-generator (w .4) (w .5) (w .6) ∙ w .3 .ensures))
     (λ w. left (w .0 .left) (same-generator (w .1) (w .2) (w .3))) (pulls-2 .if22 .came)) in
+    let moved = faded (⊎-elim (λ w. fades (w .2 ∙ w .1 .ensures)) (λ w. empty (w .0 .left) (w .1)) (bus .if1 .came)) in
     ap₂ outputs
-    (⊎-elim (λ w. w .4 ∙ ap (λ (x : BusClock). x .lost) (w .1 .ensures)) (λ w. w .2 ∙ sym (empty-loses _ (w .0 .left))) (bus .if1 .came))
+    (ap (λ (b : InternalDataBus). start .«data_bus» .value - b .value) moved)
     (round (over pack) (start .cycle) (start .«voice_0») (start .«voice_1») (start .«voice_2»)
-    (⊎-elim (λ w. fades (w .3 ∙ ap (λ (x : BusClock). x .bus) (w .1 .ensures))) (λ w. empty (w .0 .left) (w .1)) (bus .if1 .came))
+    (fades moved)
     (cycle .wrapping-add-u64 .ensures) voice-0 voice-1 voice-2 (steps-2 .before .before .before .clocked3 .ensures)
     (judged (c .synced3 .ensures) (c .before .before .synced .ensures) (c .before .synced2 .ensures)))
 
@@ -122,6 +134,7 @@ tick-over-spec =
     tie.close
     (tie.spec
     (λ c κs. search needs)
+    sub-lost
     (λ c κs. search needs)
     (λ c κs. search needs)
     (λ c κs. search needs)
