@@ -101,7 +101,7 @@ pub data Fade (b b1 : InternalDataBus) : Type 0 where
   fades : b1 ≡ Bus·clocked b → Fade b b1
   empty : b .value ≡ 0 → b1 ≡ b → Fade b b1
 
-pub faded : {b b1 : InternalDataBus} → Fade b b1 → b1 ≡ Bus·clocked b
+faded : {b b1 : InternalDataBus} → Fade b b1 → b1 ≡ Bus·clocked b
 faded (fades p) = p
 faded {b} (empty h p) = p ∙ sym (clocked-empty b h)
 

@@ -16,16 +16,16 @@ ghost use Rattle.sid.specs.Sid.{ticked, tickedBy};
 ghost use Rattle.pack.specs.Pack.{refusal, over};
 ghost use Rattle.tick.specs.Outputs.{outputs, packTicked};
 
-// What a tick gives: the chip after it, the levels and the codes of its voices, and the bits that its data bus lost.
+// What a tick gives: the chip after it, the codes and the levels of its voices, and the bits that its data bus lost.
 pub struct Ticked {
     pub chip: Mos6581,
+    pub code_0: u16,
+    pub code_1: u16,
+    pub code_2: u16,
     pub level_0: u8,
     pub level_1: u8,
     pub level_2: u8,
     pub lost: u8,
-    pub code_0: u16,
-    pub code_1: u16,
-    pub code_2: u16,
 }
 
 // What a tick over a pack gives: where it is refused, the chip as it was.
@@ -47,13 +47,13 @@ pub fn tick_packed(chip: Mos6581, pack: &[u16]) -> PackTicked
     if pack.len() != pack::LENGTH {
         let ticked = Ticked {
             chip,
+            code_0: chip.voice_0.oscillator.tone.last_sample,
+            code_1: chip.voice_1.oscillator.tone.last_sample,
+            code_2: chip.voice_2.oscillator.tone.last_sample,
             level_0: chip.voice_0.envelope.volume,
             level_1: chip.voice_1.envelope.volume,
             level_2: chip.voice_2.envelope.volume,
             lost: 0,
-            code_0: chip.voice_0.oscillator.tone.last_sample,
-            code_1: chip.voice_1.oscillator.tone.last_sample,
-            code_2: chip.voice_2.oscillator.tone.last_sample,
         };
         return PackTicked {
             ticked,
@@ -98,9 +98,11 @@ pub fn tick_over(chip: Mos6581, pack: &[u16]) -> Ticked
     let mut floating_2 = chip.voice_2.oscillator.bus.numbers;
     let mut lines_2 = chip.voice_2.oscillator.bus.charge;
     let mut envelope_2 = chip.voice_2.envelope;
-    // the bus
+    // the bus, and the bits that it loses
+    let mut lost = data_bus.value;
     if data_bus.value != 0 {
         data_bus = bus::lent_clock(data_bus);
+        lost = lost - data_bus.value;
     }
     // the cycle
     let cycle = std::num::wrapping_add_u64(chip.cycle, 1);
@@ -236,7 +238,6 @@ pub fn tick_over(chip: Mos6581, pack: &[u16]) -> Ticked
     tone_0 = sid::synced(tone_0, control_0, tone_2, control_2, tone_1);
     tone_1 = next_1;
     tone_2 = next_2;
-    let lost = chip.data_bus.value - data_bus.value;
     let after = Mos6581 {
         voice_0: Voice {
             oscillator: Oscillator {
@@ -293,12 +294,12 @@ pub fn tick_over(chip: Mos6581, pack: &[u16]) -> Ticked
     };
     Ticked {
         chip: after,
+        code_0: tone_0.last_sample,
+        code_1: tone_1.last_sample,
+        code_2: tone_2.last_sample,
         level_0: envelope_0.volume,
         level_1: envelope_1.volume,
         level_2: envelope_2.volume,
         lost,
-        code_0: tone_0.last_sample,
-        code_1: tone_1.last_sample,
-        code_2: tone_2.last_sample,
     }
 }

@@ -3,7 +3,7 @@
 -- rests and steps. Assumes nothing.
 use Rattle.sid.proofs.Ticks.{same-generator, same-lines}
 use Rattle.oscillator.proofs.Due.{loading-still}
-use Rattle.sid.proofs.Turn.{fades, empty, faded, turn, judged, round}
+use Rattle.sid.proofs.Turn.{fades, empty, turn, judged, round}
 use Rattle.bus.specs.Bus.{lost}
 use Rattle.bus.specs.declared.InternalDataBus.{InternalDataBus}
 use Rattle.bus.proofs.Lost.{clocked-le}
@@ -24,19 +24,12 @@ use Rattle.tick.proofs.tick_over.Tie as tie
 
 -- a clock sets no bit
 sub-lost : tie.Need-sub-lost
-sub-lost c =
-    let bus =
-    c .before .before .before .before .before .before .before .before .before .before .before .before .before .before .before .before .before .before .before .before .before .before .before .before .before .before .before .before .before .before .before .before .before .before .before .before .before .before .before .before .before .before .before .before .before .before .before .before .before .before .before .before .before .before in
-    let start : Mos6581 =
-    bus .before .before .before .before .before .before .before .before .before .before .before .before .before .before .before .before .before .before .before .before .before .before .before .before .before .before .before .before .args .chip in
-    let moved = faded (⊎-elim (λ w. fades (w .2 ∙ w .1 .ensures)) (λ w. empty (w .0 .left) (w .1)) (bus .if1 .came)) in
-    omega (arith, clocked-le (start .«data_bus»), ap (λ (b : InternalDataBus). b .value) moved)
+sub-lost c = rw (c .before .lent-clock .ensures) (clocked-le _)
 
 returns : tie.Need-returns
 unfolding outputs lost
 returns c =
-    let last = c .before .before in
-    let pulls-2 = last .before .before .before in
+    let pulls-2 = c .before .before .before in
     let couples-2 = pulls-2 .before .before in
     let loads-2 = couples-2 .before .before .before in
     let leaks-2 = loads-2 .before .before .before in
@@ -122,85 +115,84 @@ returns c =
     (pulls-2 .before .pulls-down3 .ensures)
     (⊎-elim (λ w. taken (w .0 .taken) (same-generator (w .4) (w .5) (w .6) ∙ w .3 .ensures))
     (λ w. left (w .0 .left) (same-generator (w .1) (w .2) (w .3))) (pulls-2 .if22 .came)) in
-    let moved = faded (⊎-elim (λ w. fades (w .2 ∙ w .1 .ensures)) (λ w. empty (w .0 .left) (w .1)) (bus .if1 .came)) in
     ap₂ outputs
-    (ap (λ (b : InternalDataBus). start .«data_bus» .value - b .value) moved)
+    (⊎-elim (λ w. w .4 ∙ ap (λ (b : InternalDataBus). start .«data_bus» .value - b .value) (w .1 .ensures)) (λ w. w .2 ∙ omega (arith, w .0 .left)) (bus .if1 .came))
     (round (over pack) (start .cycle) (start .«voice_0») (start .«voice_1») (start .«voice_2»)
-    (fades moved)
+    (⊎-elim (λ w. fades (w .3 ∙ w .1 .ensures)) (λ w. empty (w .0 .left) (w .1)) (bus .if1 .came))
     (cycle .wrapping-add-u64 .ensures) voice-0 voice-1 voice-2 (steps-2 .before .before .before .clocked3 .ensures)
-    (judged (last .synced3 .ensures) (last .before .before .synced .ensures) (last .before .synced2 .ensures)))
+    (judged (c .synced3 .ensures) (c .before .before .synced .ensures) (c .before .synced2 .ensures)))
 
 pub tick-over-spec : {M : Type 1} → statement M
 tick-over-spec =
     tie.close
     (tie.spec
     (λ c κs. search needs)
-    (λ c κs. search needs)
-    (λ c κs. search needs)
-    (λ c κs. search needs)
-    (λ c κs. search needs)
-    (λ c κs. search needs)
-    (λ c κs. search needs)
-    (λ c κs. search needs)
-    (λ c κs. search needs)
-    (λ c κs. search needs)
-    (λ c κs. search needs)
-    (λ c κs. search needs)
-    (λ c κs. search needs)
-    (λ c κs. search needs)
-    (λ c κs. search needs)
-    (λ c κs. search needs)
-    (λ c κs. search needs)
-    (λ c κs. search needs)
-    (λ c κs. search needs)
-    (λ c κs. search needs)
-    (λ c κs. search needs)
-    (λ c κs. search needs)
-    (λ c κs. search needs)
-    (λ c κs. search needs)
-    (λ c κs. search needs)
-    (λ c κs. search needs)
-    (λ c κs. search needs)
-    (λ c κs. search needs)
-    (λ c κs. search needs)
-    (λ c. search needs)
-    (λ c. search needs)
-    (λ c κs. search needs)
-    (λ c κs. search needs)
-    (λ c κs. search needs)
-    (λ c κs. search needs)
-    (λ c κs. search needs)
-    (λ c κs. search needs)
-    (λ c κs. search needs)
-    (λ c κs. search needs)
-    (λ c κs. search needs)
-    (λ c κs. search needs)
-    (λ c κs. search needs)
-    (λ c κs. search needs)
-    (λ c. search needs)
-    (λ c. search needs)
-    (λ c κs. search needs)
-    (λ c κs. search needs)
-    (λ c κs. search needs)
-    (λ c κs. search needs)
-    (λ c κs. search needs)
-    (λ c κs. search needs)
-    (λ c κs. search needs)
-    (λ c κs. search needs)
-    (λ c κs. search needs)
-    (λ c κs. search needs)
-    (λ c κs. search needs)
-    (λ c κs. search needs)
-    (λ c. search needs)
-    (λ c. search needs)
-    (λ c κs. search needs)
-    (λ c κs. search needs)
-    (λ c κs. search needs)
-    (λ c κs. search needs)
-    (λ c κs. search needs)
-    (λ c κs. search needs)
-    (λ c κs. search needs)
-    (λ c κs. search needs)
-    (λ c κs. search needs)
     sub-lost
+    (λ c κs. search needs)
+    (λ c κs. search needs)
+    (λ c κs. search needs)
+    (λ c κs. search needs)
+    (λ c κs. search needs)
+    (λ c κs. search needs)
+    (λ c κs. search needs)
+    (λ c κs. search needs)
+    (λ c κs. search needs)
+    (λ c κs. search needs)
+    (λ c κs. search needs)
+    (λ c κs. search needs)
+    (λ c κs. search needs)
+    (λ c κs. search needs)
+    (λ c κs. search needs)
+    (λ c κs. search needs)
+    (λ c κs. search needs)
+    (λ c κs. search needs)
+    (λ c κs. search needs)
+    (λ c κs. search needs)
+    (λ c κs. search needs)
+    (λ c κs. search needs)
+    (λ c κs. search needs)
+    (λ c κs. search needs)
+    (λ c κs. search needs)
+    (λ c κs. search needs)
+    (λ c κs. search needs)
+    (λ c κs. search needs)
+    (λ c. search needs)
+    (λ c. search needs)
+    (λ c κs. search needs)
+    (λ c κs. search needs)
+    (λ c κs. search needs)
+    (λ c κs. search needs)
+    (λ c κs. search needs)
+    (λ c κs. search needs)
+    (λ c κs. search needs)
+    (λ c κs. search needs)
+    (λ c κs. search needs)
+    (λ c κs. search needs)
+    (λ c κs. search needs)
+    (λ c κs. search needs)
+    (λ c. search needs)
+    (λ c. search needs)
+    (λ c κs. search needs)
+    (λ c κs. search needs)
+    (λ c κs. search needs)
+    (λ c κs. search needs)
+    (λ c κs. search needs)
+    (λ c κs. search needs)
+    (λ c κs. search needs)
+    (λ c κs. search needs)
+    (λ c κs. search needs)
+    (λ c κs. search needs)
+    (λ c κs. search needs)
+    (λ c κs. search needs)
+    (λ c. search needs)
+    (λ c. search needs)
+    (λ c κs. search needs)
+    (λ c κs. search needs)
+    (λ c κs. search needs)
+    (λ c κs. search needs)
+    (λ c κs. search needs)
+    (λ c κs. search needs)
+    (λ c κs. search needs)
+    (λ c κs. search needs)
+    (λ c κs. search needs)
     returns)
