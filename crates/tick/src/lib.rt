@@ -98,7 +98,7 @@ pub fn tick_over(chip: Mos6581, pack: &[u16]) -> Ticked
     let mut floating_2 = chip.voice_2.oscillator.bus.numbers;
     let mut lines_2 = chip.voice_2.oscillator.bus.charge;
     let mut envelope_2 = chip.voice_2.envelope;
-    // the bus, and the bits that it loses
+    // the bus, and the bits that it loses: an empty one is not clocked, and its byte says none
     let mut lost = data_bus.value;
     if data_bus.value != 0 {
         data_bus = bus::lent_clock(data_bus);

@@ -1,6 +1,6 @@
 -- `tick_over` is one clock of the chip by the rules, with the entries of a pack where it has them, and gives the codes
--- and levels that stand after it. The places along the body have names, by voice: where it pulls, couples, loads, leaks,
--- rests and steps. Assumes nothing.
+-- and levels that stand after it, and the bits that the bus lost. The places along the body have names, by voice: where
+-- it pulls, couples, loads, leaks, rests and steps. Assumes nothing.
 use Rattle.sid.proofs.Ticks.{same-generator, same-lines}
 use Rattle.oscillator.proofs.Due.{loading-still}
 use Rattle.sid.proofs.Turn.{fades, empty, turn, judged, round}
