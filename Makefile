@@ -21,6 +21,7 @@ lists:
 	cd tools/oracle && cargo build --release
 	tools/oracle/target/release/oracle list bus > crates/bus_cases/data/bus
 	tools/oracle/target/release/oracle list envelope > crates/envelope_cases/data/envelope
+	tools/oracle/target/release/oracle list rises > crates/envelope_cases/data/rises
 	tools/oracle/target/release/oracle list oscillator_calls > crates/oscillator_cases/data/calls
 	tools/oracle/target/release/oracle list oscillator_states > crates/oscillator_cases/data/states
 	tools/oracle/target/release/oracle list replay_scores > crates/replay_cases/data/scores
@@ -39,6 +40,7 @@ compare:
 	tools/oracle/target/release/oracle compare-replay 20 1 sh tools/run.sh target/bin/replay
 	tools/oracle/target/release/oracle compare-writer 7500 1 sh tools/run.sh target/bin/writer_cases
 	tools/oracle/target/release/oracle compare-texts 300 1 sh tools/run.sh target/bin
+	tools/oracle/target/release/oracle compare-rises 12000 1 sh $(CURDIR)/tools/run.sh $(CURDIR)/target/bin/envelope_cases
 
 # This chip against the original, scene by scene (docs/PERFORMANCE.md). Needs cargo, and the original as for the lists.
 bench:

@@ -1,6 +1,6 @@
-// Replays data/envelope, the oracle's calls on one envelope: the whole state after each.
-// The list is made by tools/oracle: cargo run --release -- list envelope
-// A record of 21 bytes: the call, its operand (2), and the state after it, as `state` reads it.
+// Replays the oracle's lists data/envelope (calls on one envelope: the whole state after each) and data/rises (rises:
+// the level after each clock, the whole state after the last).
+// They are made by tools/oracle: cargo run --release -- list NAME
 use cases::Tally;
 use envelope::Envelope;
 use envelope::EnvelopeMotion;
@@ -22,6 +22,7 @@ fn place(motion: EnvelopeMotion) -> u8 {
     }
 }
 
+// The last 18 bytes of a record of 21.
 fn state(record: &[u8]) -> Envelope {
     let flags = words::u8_at(record, 8);
     let motions = words::u8_at(record, 9);
@@ -99,7 +100,12 @@ fn same_level(a: Envelope, b: Envelope) -> bool {
     a.level() == b.volume && a.held() == b.floor_hold && a.read_level() == b.readback
 }
 
-fn replay(list: &[u8]) -> Tally {
+fn same(a: Envelope, b: Envelope) -> bool {
+    same_settings(a, b) && same_motion(a, b) && same_counters(a, b) && same_level(a, b)
+}
+
+// A record of 21 bytes: the call, its operand (2), and the state after it.
+fn replay_envelope(list: &[u8]) -> Tally {
     let mut tally = Tally::new();
     let mut e = Envelope::new();
     let mut rest = list.len() / 21;
@@ -109,13 +115,84 @@ fn replay(list: &[u8]) -> Tally {
         let record = &list[at..next];
         let after = state(record);
         e = made(record, e, after);
-        let same = same_settings(e, after)
-            && same_motion(e, after)
-            && same_counters(e, after)
-            && same_level(e, after);
-        tally = tally.count(same);
+        tally = tally.count(same(e, after));
         at = next;
         rest = rest - 1;
+    }
+    tally
+}
+
+struct Played {
+    e: Envelope,
+    tally: Tally,
+}
+
+// So many clocks, with this level after each.
+fn play_run(from: Envelope, t: Tally, level: u8, clocks: u16) -> Played {
+    let mut e = from;
+    let mut tally = t;
+    let mut left = clocks;
+    while 0 < left {
+        e = e.clock();
+        tally = tally.count(e.level() == level);
+        left = left - 1;
+    }
+    Played { e, tally }
+}
+
+// A run of 3 bytes: the level, the clocks (2).
+fn play_runs(from: Envelope, t: Tally, runs: &[u8]) -> Played {
+    let mut e = from;
+    let mut tally = t;
+    let mut rest = runs.len() / 3;
+    let mut at: usize = 0;
+    while 0 < rest {
+        let level = words::u8_at(runs, at);
+        let clocks = words::u16_at(runs, at + 1);
+        let played = play_run(e, tally, level, clocks);
+        let reached = played.e;
+        let counted = played.tally;
+        e = reached;
+        tally = counted;
+        at = at + 3;
+        rest = rest - 1;
+    }
+    Played { e, tally }
+}
+
+fn started(head: &[u8]) -> Envelope {
+    let e = state(head);
+    if words::u8_at(head, 0) == 1 {
+        return e.set_gate(true);
+    }
+    e
+}
+
+fn replay_rise(t: Tally, head: &[u8], runs: &[u8], end: &[u8]) -> Tally {
+    let played = play_runs(started(head), t, runs);
+    let e = played.e;
+    let tally = played.tally;
+    tally.count(same(e, state(end)))
+}
+
+// A rise: its head, a record of 21 bytes (whether a gate-on is written first, the number of runs (2), the state), the
+// runs, and the state after them (18). That state and the 3 bytes before it are a record, too.
+fn replay_rises(list: &[u8]) -> Tally {
+    let mut tally = Tally::new();
+    let mut rest = list.len();
+    let mut at: usize = 0;
+    while 39 <= rest {
+        let from = at + 21;
+        let head = &list[at..from];
+        let bytes = words::u16_at(head, 1) as usize * 3;
+        if rest - 39 < bytes {
+            return tally;
+        }
+        let to = from + bytes;
+        let next = to + 18;
+        tally = replay_rise(tally, head, &list[from..to], &list[to - 3..next]);
+        at = next;
+        rest = rest - 39 - bytes;
     }
     tally
 }
@@ -123,5 +200,7 @@ fn replay(list: &[u8]) -> Tally {
 fn main() {
     let mut list = [0u8; 65536];
     let n = cases::load(b"envelope", &mut list);
-    cases::report(b"envelope", replay(&list[..n]));
+    cases::report(b"envelope", replay_envelope(&list[..n]));
+    let n = cases::load(b"rises", &mut list);
+    cases::report(b"rises", replay_rises(&list[..n]));
 }

@@ -12,10 +12,11 @@ use std::thread;
 
 use crate::aim;
 use crate::append;
+use crate::attack;
 use crate::calls::{Recorder, Rule, RECORD_BYTES};
 use crate::compose;
 use crate::lines;
-use crate::lists::{self, WriterCalls};
+use crate::lists::{self, Rise, WriterCalls};
 use crate::score;
 use crate::sid::sid::Mos6581;
 use crate::text::{self, Fault};
@@ -26,6 +27,9 @@ const SEEDS_AT_ONCE: u64 = 40;
 const SCORES_AT_ONCE: u64 = 5_000;
 /// A run of `writer_cases` has the calls of so many seeds; it takes 65,536 at the most.
 const LISTS_AT_ONCE: u64 = 500;
+/// A run of `envelope_cases` has so many rises; it takes the bytes below at the most.
+const RISES_AT_ONCE: u64 = 75;
+const MOST_BYTES_OF_RISES: usize = 65_536;
 
 /// Feeds `sid_cases` the aimed calls of so many seeds, each of so many ticks or more.
 pub fn calls(program: &[&OsStr], seeds: u64, ticks: u64, first: u64) -> io::Result<bool> {
@@ -85,9 +89,7 @@ fn find_difference(
 fn difference(program: &[&OsStr], records: &[u8]) -> io::Result<Option<String>> {
     let count = records.len() / RECORD_BYTES;
     let due = format!("sid: {count} answers compared, 0 differ\n");
-    let said = answer(program, records)?;
-    let alike = said == due.as_bytes();
-    Ok((!alike).then(|| String::from_utf8_lossy(&said).trim_end().to_owned()))
+    Ok(unless_due(&answer(program, records)?, &due))
 }
 
 /// Feeds `replay` so many scores, of seeds from the first on, one at a time.
@@ -107,11 +109,7 @@ pub fn replay(program: &[&OsStr], count: u64, first: u64) -> io::Result<bool> {
 
 /// Feeds `replay_cases` so many scores, of seeds from the first on.
 pub fn scores(program: &[&OsStr], count: u64, first: u64) -> io::Result<bool> {
-    let folder = env::temp_dir().join(format!("oracle-{}", process::id()));
-    fs::create_dir(&folder)?;
-    let alike = scores_in(&folder, program, count, first);
-    fs::remove_dir_all(&folder)?;
-    alike
+    in_own_folder(|folder| scores_in(folder, program, count, first))
 }
 
 fn scores_in(folder: &Path, program: &[&OsStr], count: u64, first: u64) -> io::Result<bool> {
@@ -245,6 +243,70 @@ pub fn texts(runner: &[&OsStr], folder: &OsStr, count: u64, first: u64) -> io::R
         println!("refused {number}: {texts}");
     }
     Ok(true)
+}
+
+/// Feeds `envelope_cases` the rises of so many seeds, and an empty list of calls.
+pub fn rises(program: &[&OsStr], count: u64, first: u64) -> io::Result<bool> {
+    in_own_folder(|folder| rises_in(folder, program, count, first))
+}
+
+fn rises_in(folder: &Path, program: &[&OsStr], count: u64, first: u64) -> io::Result<bool> {
+    let mut clocks = 0;
+    let mut whole = 0;
+    let mut late = 0;
+    fs::write(folder.join("envelope"), [])?;
+    for batch in batches(first..first + count, RISES_AT_ONCE) {
+        let rises: Vec<Rise> = batch.clone().map(attack::seeded).collect();
+        if let Some(said) = difference_of_rises(folder, program, &rises)? {
+            println!("seeds {} to {}: {said}", batch.start, batch.end - 1);
+            for (seed, rise) in batch.zip(rises) {
+                if let Some(said) = difference_of_rises(folder, program, &[rise])? {
+                    println!("seed {seed}: {said}");
+                    return Ok(false);
+                }
+            }
+            println!("none of them differs by itself");
+            return Ok(false);
+        }
+        for rise in rises {
+            clocks += u64::from(rise.clocks);
+            whole += u64::from(rise.is_whole());
+            late += u64::from(rise.late);
+        }
+    }
+    println!("{count} rises, {late} of them late, {clocks} clocks one by one: no difference");
+    println!("{whole} of these rises go to the top");
+    Ok(true)
+}
+
+/// What `envelope_cases` says of rises, unless it finds all alike.
+fn difference_of_rises(
+    folder: &Path,
+    program: &[&OsStr],
+    rises: &[Rise],
+) -> io::Result<Option<String>> {
+    let list: Vec<u8> = rises.iter().flat_map(Rise::record).collect();
+    assert!(list.len() <= MOST_BYTES_OF_RISES);
+    fs::write(folder.join("rises"), list)?;
+    let answers: u64 = rises.iter().map(|rise| u64::from(rise.clocks) + 1).sum();
+    let none = "envelope: 0 answers compared, 0 differ";
+    let due = format!("{none}\nrises: {answers} answers compared, 0 differ\n");
+    Ok(unless_due(&answer_in(folder, program, &[])?, &due))
+}
+
+/// A program started there finds the files that are written there.
+fn in_own_folder(compare: impl FnOnce(&Path) -> io::Result<bool>) -> io::Result<bool> {
+    let folder = env::temp_dir().join(format!("oracle-{}", process::id()));
+    fs::create_dir(&folder)?;
+    let alike = compare(&folder);
+    fs::remove_dir_all(&folder)?;
+    alike
+}
+
+/// What a program said, in one line, unless that was due.
+fn unless_due(said: &[u8], due: &str) -> Option<String> {
+    let lines = || String::from_utf8_lossy(said).trim_end().replace('\n', "; ");
+    (said != due.as_bytes()).then(lines)
 }
 
 fn batches(seeds: Range<u64>, most: u64) -> impl Iterator<Item = Range<u64>> {

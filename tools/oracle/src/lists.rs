@@ -5,6 +5,7 @@ mod envelope;
 mod oscillator;
 mod packs;
 mod replay;
+mod rises;
 mod settling;
 mod sid;
 mod watches;
@@ -14,17 +15,19 @@ mod writer;
 use std::ffi::OsStr;
 
 pub use replay::{listing_in_one, scores_in_one};
+pub use rises::{target, Rates, Rise, Start, PHASES};
 pub use writer::{Calls as WriterCalls, MOST_ROOM};
 
 type List = fn() -> Vec<u8>;
 
-const LISTS: [(&str, List); 11] = [
+const LISTS: [(&str, List); 12] = [
     ("bus", bus::list),
     ("envelope", envelope::list),
     ("oscillator_calls", oscillator::calls),
     ("oscillator_states", oscillator::states),
     ("replay_listings", replay::listings),
     ("replay_scores", replay::scores),
+    ("rises", rises::list),
     ("settling", settling::list),
     ("sid", sid::list),
     ("waveforms", waveforms::list),

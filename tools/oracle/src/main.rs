@@ -3,6 +3,7 @@
 
 mod aim;
 mod append;
+mod attack;
 mod calls;
 mod compare;
 mod compose;
@@ -34,12 +35,14 @@ fn main() -> ExitCode {
         eprintln!("       oracle compare-replay SCORES FIRST_SEED REPLAY...");
         eprintln!("       oracle compare-writer LISTS FIRST_SEED WRITER_CASES...");
         eprintln!("       oracle compare-texts TEXTS FIRST_SEED RUNNER... FOLDER");
+        eprintln!("       oracle compare-rises RISES FIRST_SEED ENVELOPE_CASES...");
         eprintln!("       oracle calls SEED TICKS");
         eprintln!("       oracle score SEED");
         eprintln!("       oracle listing < SCORE");
         eprintln!("       oracle appends SEED");
         eprintln!("       oracle appended SEED");
         eprintln!("       oracle text SEED");
+        eprintln!("       oracle rise SEED");
         return ExitCode::from(2);
     };
     match done {
@@ -72,6 +75,9 @@ fn obey(arguments: &[&OsStr]) -> Option<io::Result<bool>> {
         ("compare-texts", [count, first, runner @ .., folder]) => {
             compare::texts(runner, folder, number(count)?, number(first)?)
         }
+        ("compare-rises", [count, first, program @ ..]) if !program.is_empty() => {
+            compare::rises(program, number(count)?, number(first)?)
+        }
         ("calls", &[seed, ticks]) => {
             let mut recorder = Recorder::new();
             aim::seeded_calls(&mut recorder, number(seed)?, number(ticks)?);
@@ -86,6 +92,7 @@ fn obey(arguments: &[&OsStr]) -> Option<io::Result<bool>> {
             write(answers.lines.as_bytes())
         }
         ("text", &[seed]) => write(&lines::seeded(number(seed)?).0),
+        ("rise", &[seed]) => write(&attack::seeded(number(seed)?).record()),
         _ => return None,
     })
 }

@@ -17,9 +17,9 @@ const SEED: u64 = 466;
 const RANDOM_STATES: usize = 300;
 const RANDOM_CALLS: usize = 150;
 
-const RISING: u8 = 0;
-const FALLING_TO_SUSTAIN: u8 = 1;
-const FALLING_TO_ZERO: u8 = 2;
+pub(super) const RISING: u8 = 0;
+pub(super) const FALLING_TO_SUSTAIN: u8 = 1;
+pub(super) const FALLING_TO_ZERO: u8 = 2;
 
 pub fn list() -> Vec<u8> {
     let mut recorder = Recorder::new();
@@ -112,38 +112,42 @@ impl Recorder {
     }
 
     fn record(&mut self, number: u8, operand: u16) {
-        let state = self.envelope.state();
-        let flags = [
-            state.input,
-            state.stage_a,
-            state.stage_b,
-            state.matched_rate,
-            state.floor_hold,
-        ];
-        let flags = (0..).zip(flags).map(|(bit, flag)| u8::from(flag) << bit);
         self.records.push(number);
         self.records.extend(operand.to_le_bytes());
-        self.records.extend([
-            state.volume,
-            state.rise_rate,
-            state.decay_rate,
-            state.hold_level,
-            state.fall_rate,
-            flags.sum(),
-            state.motion + 4 * state.requested_motion,
-            state.motion_delay,
-        ]);
-        self.records.extend(state.rate_phase.to_le_bytes());
-        self.records.extend(state.rate_target_phase.to_le_bytes());
-        self.records.extend([
-            state.amplitude_delay,
-            state.curve_delay,
-            state.curve_count,
-            state.curve_divisor,
-            state.queued_curve_divisor,
-            state.readback,
-        ]);
+        record_state(&mut self.records, &self.envelope.state());
     }
+}
+
+/// The last 18 bytes of a record.
+pub(super) fn record_state(records: &mut Vec<u8>, state: &State) {
+    let flags = [
+        state.input,
+        state.stage_a,
+        state.stage_b,
+        state.matched_rate,
+        state.floor_hold,
+    ];
+    let flags = (0..).zip(flags).map(|(bit, flag)| u8::from(flag) << bit);
+    records.extend([
+        state.volume,
+        state.rise_rate,
+        state.decay_rate,
+        state.hold_level,
+        state.fall_rate,
+        flags.sum(),
+        state.motion + 4 * state.requested_motion,
+        state.motion_delay,
+    ]);
+    records.extend(state.rate_phase.to_le_bytes());
+    records.extend(state.rate_target_phase.to_le_bytes());
+    records.extend([
+        state.amplitude_delay,
+        state.curve_delay,
+        state.curve_count,
+        state.curve_divisor,
+        state.queued_curve_divisor,
+        state.readback,
+    ]);
 }
 
 /// Three clocks each, recorded one by one.
