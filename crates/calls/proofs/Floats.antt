@@ -3,7 +3,7 @@
 use mathlib.Core.Path.{_≡_, refl, ap, ap₂, sym, subst, _∙_}
 use mathlib.Core.Bool.{Bool, true, false, not, _||_, false≢true}
 use mathlib.Core.List.{List, [], _∷_}
-use Prim.Native.Nat.{ℕ, zero, suc, _+_, _*_, _/_, _%_, _^_, _<_, _≤_}
+use Prim.Native.Nat.{ℕ, zero, suc, _/_, _%_, _^_, _<_, _≤_}
 use native.Mathlib.Omega.{arith}
 use lib.Dec.{eqb}
 use borrow.Author.Tests.{eq-eqb, eqb-true, eqb-false}
@@ -22,8 +22,8 @@ use Rattle.oscillator.specs.Ways.{stepwise}
 use Rattle.sid.specs.Sid.{fresh, register, writtenOscillator, writtenVoice, writtenTo, written, readAt, clockedVoice, clockedVoiceBy, nextCycle, voiced, voicedBy, synchronisedIf, ticked, codeOf, Call, write, read, tick, clear, potX, potY, calledBy, afterBy, after, clocksOf}
 use Rattle.sid.specs.declared.Voice.{Voice}
 use Rattle.sid.specs.declared.Mos6581.{Mos6581}
-use Rattle.calls.specs.Calls.{Which, voice-0, voice-1, voice-2, number, of, controlOf, waveformOf, Each, none, next, leavesOff, Latched, Captures, Floats}
-use Rattle.calls.proofs.Voices.{Face, tick-voice, tick-cycle, read-voice, read-cycle, pot-x-voice, pot-y-voice, write-voice, write-cycle, write-oscillator, write-face}
+use Rattle.calls.specs.Calls.{Which, voice-2, number, of, controlOf, waveformOf, Each, none, next, leavesOff, Latched, Captures, Floats}
+use Rattle.calls.proofs.Voices.{Face, tick-voice, tick-cycle, read-voice, read-cycle, pot-x-voice, pot-y-voice, control-at, write-voice, write-control, write-cycle, write-oscillator, write-face}
 use Rattle.calls.proofs.Latched.{latched-after, latched-fresh, read-osc3}
 
 abbrev samples : ℕ → FloatingBus → ℕ → FloatingBus
@@ -78,12 +78,6 @@ register-stays : (v : Voice) (r value cycle : ℕ) → waveformOf v ≡ 0 → (r
 register-stays v r value cycle z h =
     write-oscillator (Stays v) v r value cycle (λ _ _. record { off = refl; lines = refl }) (λ e. control-stays v value cycle z (h (eqb-true r 4 e)))
     (record { off = refl; lines = refl })
-
--- the control register of voice n is 7 n + 4
-control-at : (w : Which) → controlOf w ≡ 7 * number w + 4
-control-at voice-0 = refl
-control-at voice-1 = refl
-control-at voice-2 = refl
 
 write-stays
     : (w : Which) (c : Mos6581) (address value : ℕ)
@@ -147,24 +141,16 @@ code-drifts w (potY value ∷ calls) c b cycle (next h r) e d =
 
 -- ---- the capture
 
-write-control : (n : ℕ) (v : Voice) (r value cycle : ℕ) → r ≡ 7 * n + 4 → writtenTo n v r value cycle .oscillator ≡ Oscillator·written (v .oscillator) value cycle
-unfolding writtenTo writtenVoice writtenOscillator
-write-control n v r value cycle e =
-    let p : r / 7 ≡ n = omega arith in
-    let q : r % 7 ≡ 4 = omega arith in
-    simp (eq-eqb (r / 7) n p, q)
-
 starts
     : (w : Which) (c : Mos6581) (address value : ℕ)
     → Latched (of w c)
     → Captures w c address value
     → Drifts (of w (written c address value)) (captured (codeOf (of w c)) (c .cycle))
-unfolding Oscillator·written writtenControl captured
+unfolding writtenVoice writtenOscillator Oscillator·written writtenControl captured
 starts w c address value l h =
     let o = of w c .oscillator in
     let e : of w (written c address value) .oscillator ≡ Oscillator·written o value (c .cycle) =
-    ap (λ (v : Voice). v .oscillator) (write-voice w c address value)
-    ∙ write-control (number w) (of w c) (register address) value (c .cycle) (h .control ∙ control-at w) in
+    ap (λ (v : Voice). v .oscillator) (write-control w c address value (h .control)) in
     record {
       off = ap (λ (x : Oscillator). x .control .waveform) e ∙ h .off;
       lines = ap (λ (x : Oscillator). x .bus) e ∙ write-captures o value (c .cycle) (h .off) (h .another);

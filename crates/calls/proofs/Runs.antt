@@ -74,7 +74,7 @@ module _ {allows : Call → Bool} where
 
 -- ---- so of the chip that `run` gives: its contract is `r ≡ ticks n chip`
 
--- an envelope has made n clocks, of which `demand-3` and `sustain-holds` speak
+-- an envelope has made n clocks, of which `demand-3`, `rise`, `late-start` and `sustain-holds` speak
 pub run-envelope : (w : Which) (n : ℕ) (c : Mos6581) → of w (ticks n c) .envelope ≡ Envelope·clocks n (of w c .envelope)
 unfolding spares
 run-envelope w n c =

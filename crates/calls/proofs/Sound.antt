@@ -1,5 +1,5 @@
--- A held level is 0, noise lines show their stages, a phase has 24 bits and a code 12: every call keeps this of any
--- voice. Assumes nothing.
+-- A held level is 0, an envelope's target is that of its rate, noise lines show their stages, a phase has 24 bits and a
+-- code 12: every call keeps this of any voice. Assumes nothing.
 use mathlib.Core.Path.{_≡_, sym, subst}
 use mathlib.Core.Bool.{Bool, true, false, not, _&&_, false≢true}
 use mathlib.Core.List.{List}
@@ -10,7 +10,9 @@ use borrow.Author.Tests.{eqb-true}
 use Rattle.laws.proofs.Cond.{either}
 use Rattle.envelope.specs.Envelope.{targetRefreshed, attackDecaySet, sustainReleaseSet, gateSet, fresh as Envelope·fresh, reset as Envelope·reset}
 use Rattle.envelope.specs.declared.Envelope.{Envelope}
+use Rattle.release.specs.Settled.{Timed}
 use Rattle.release.proofs.Stays.{held-is-zero}
+use Rattle.release.proofs.Timed.{clock-timed, gate-set-timed, attack-decay-timed, sustain-release-timed, reset-timed, fresh-timed}
 use Rattle.noise.specs.declared.NoiseGenerator.{NoiseGenerator}
 use Rattle.noise.proofs.Shows.{Shows, fresh-shows, stepped-shows, coupled-shows, pulled-shows, entered-shows, left-shows}
 use Rattle.oscillator.specs.Oscillator.{fresh as Oscillator·fresh, clockedTone, clockedBy as Oscillator·clockedBy, comparedTone, evaluatedBy, feedsBack, fedBackTone, fedBack, latchedTone, couples, pullsDown, coupledNoise, pulledNoise, latchedNoise, latchedCode, testedNoise, resetPhase, testedTone, written as Oscillator·written, synchronised as Oscillator·synchronised, voicedBy as Oscillator·voicedBy}
@@ -41,6 +43,14 @@ write-zero v r value cycle h =
 reset-zero : (e : Envelope) → Zero (Envelope·reset e)
 unfolding Envelope·reset
 reset-zero e t = eqb-true (e .volume) 0 t
+
+-- ---- the target is that of the rate in force, the counter and the level fit
+
+write-timed : (v : Voice) (r value cycle : ℕ) → Timed (v .envelope) → Timed (writtenVoice v r value cycle .envelope)
+unfolding writtenVoice writtenEnvelope
+write-timed v r value cycle h =
+    let e = v .envelope in
+    either Timed (eqb r 4) _ _ (gate-set-timed e _ h) (either Timed (eqb r 5) _ _ (attack-decay-timed e value h) (either Timed (eqb r 6) _ _ (sustain-release-timed e value h) h))
 
 -- ---- the noise lines show the stages
 
@@ -98,13 +108,15 @@ call-sound =
     call-keeps Sound
     (λ v modulator cycle taken h. record {
       held-is-zero = subst Zero (sym (sync-envelope stepwise taken v modulator cycle)) (held-is-zero (v .envelope) (h .held-is-zero));
+      timed = subst Timed (sym (sync-envelope stepwise taken v modulator cycle)) (clock-timed (v .envelope) (h .timed));
       noise-shows = tick-shows v modulator cycle taken (h .noise-shows);
       phase-fits = tick-fits v modulator cycle taken;
       latched = voice-latched v modulator cycle taken;
     })
-    (λ v h. record { held-is-zero = reset-zero (v .envelope); noise-shows = fresh-shows; phase-fits = h .phase-fits; latched = fresh-latched _ _ })
+    (λ v h. record { held-is-zero = reset-zero (v .envelope); timed = reset-timed (v .envelope) (h .timed); noise-shows = fresh-shows; phase-fits = h .phase-fits; latched = fresh-latched _ _ })
     (λ v r value cycle h. record {
       held-is-zero = write-zero v r value cycle (h .held-is-zero);
+      timed = write-timed v r value cycle (h .timed);
       noise-shows = write-shows v r value cycle (h .noise-shows);
       phase-fits = write-fits v r value cycle (h .phase-fits);
       latched = face-latched (writtenVoice v r value cycle) v (register-face v r value cycle) (h .latched);
@@ -115,7 +127,7 @@ sound-after w = calls-keep (λ c. Sound (of w c)) (call-sound w)
 
 fresh-sound : Sound freshVoice
 unfolding Oscillator·fresh Envelope·fresh
-fresh-sound = record { held-is-zero = λ t. absurd (false≢true t); noise-shows = fresh-shows; phase-fits = omega arith; latched = fresh-latched _ _ }
+fresh-sound = record { held-is-zero = λ t. absurd (false≢true t); timed = fresh-timed; noise-shows = fresh-shows; phase-fits = omega arith; latched = fresh-latched _ _ }
 
 -- SOUND is every voice of every chip that calls make of a fresh one
 pub sound-fresh : (w : Which) (calls : List Call) → Sound (of w (after calls fresh))

@@ -2,10 +2,10 @@
 use mathlib.Core.Path.{_≡_, refl, ap, sym, subst, _∙_}
 use mathlib.Core.Bool.{Bool, true, false, cond, not, _&&_, _||_, false≢true, true≢false}
 use mathlib.Core.List.{List, [], _∷_}
-use Prim.Native.Nat.{ℕ, _/_, _%_, _<_}
+use Prim.Native.Nat.{ℕ, _+_, _*_, _/_, _%_, _<_}
 use native.Mathlib.Omega.{arith}
 use lib.Dec.{eqb, ltb}
-use borrow.Author.Tests.{ne-eqb, ltb-true}
+use borrow.Author.Tests.{eq-eqb, ne-eqb, ltb-true}
 use Rattle.laws.proofs.Bools.{implies}
 use Rattle.laws.proofs.Cond.{by-test, either}
 use Rattle.bus.specs.Bus.{driven}
@@ -19,7 +19,7 @@ use Rattle.sid.specs.Sid.{freshVoice, fresh, register, withBus, resetVoice, res
 use Rattle.sid.specs.declared.Voice.{Voice}
 use Rattle.sid.specs.declared.Mos6581.{Mos6581}
 use Rattle.sid.specs.declared.Read.{Read}
-use Rattle.calls.specs.Calls.{Which, voice-0, voice-1, voice-2, number, of, floating}
+use Rattle.calls.specs.Calls.{Which, voice-0, voice-1, voice-2, number, of, controlOf, floating}
 
 -- ---- a tick, by any ways
 
@@ -140,6 +140,19 @@ unfolding written
 write-voice voice-0 c address value = refl
 write-voice voice-1 c address value = refl
 write-voice voice-2 c address value = refl
+
+-- the control register of voice n is 7 n + 4
+pub control-at : (w : Which) → controlOf w ≡ 7 * number w + 4
+control-at voice-0 = refl
+control-at voice-1 = refl
+control-at voice-2 = refl
+
+pub write-control : (w : Which) (c : Mos6581) (address value : ℕ) → register address ≡ controlOf w → of w (written c address value) ≡ writtenVoice (of w c) 4 value (c .cycle)
+unfolding writtenTo
+write-control w c address value e =
+    let p : register address / 7 ≡ number w = omega (arith, e, control-at w) in
+    let q : register address % 7 ≡ 4 = omega (arith, e, control-at w) in
+    write-voice w c address value ∙ simp (eq-eqb _ _ p, q)
 
 pub write-cycle : (c : Mos6581) (address value : ℕ) → written c address value .cycle ≡ c .cycle
 unfolding written

@@ -1,6 +1,7 @@
 -- Any run of calls (`after calls chip`), seen from one voice and from the bus: which calls a law allows in between, and
 -- what the laws say. Where they stand in proofs/:
--- Lifted: demand 3 (`chip-demand-3`) and the sustained level (`chip-sustains`).
+-- Lifted: demand 3 (`chip-demand-3`), the rise and the late start (`chip-rise`, `chip-late-start`, both also `-fresh`),
+-- the sustained level (`chip-sustains`).
 -- Fades: the fading byte (`write-fades`, `driven-read-fades`, `reset-clears`), the bits lost on a tick (`write-loses`,
 -- `driven-read-loses`, `reset-loses`), writes that move no voice (`write-only-drives`).
 -- Floats: the floating code (`chip-floats`, `chip-floats-fresh`, `read-osc3-floats`).
@@ -21,7 +22,7 @@ use Rattle.noise.specs.Noise.{shown as Noise·shown, stepsDue as Noise·stepsDu
 use Rattle.floating.specs.Floating.{stepsDue as Floating·stepsDue, Ahead as Floating·Ahead}
 use Rattle.oscillator.specs.declared.Oscillator.{Oscillator}
 use Rattle.bus.specs.Bus.{holds, kept, lost}
-use Rattle.release.specs.Release.{steps, landing, Needs}
+use Rattle.release.specs.Settled.{Runs, Timed}
 use Rattle.sid.specs.Sid.{register, readAt, Call, write, read, tick, clear, potX, potY, after, clocksOf, phaseOf, codeOf, levelOf, heldOf}
 use Rattle.sid.specs.declared.Voice.{Voice}
 use Rattle.sid.specs.declared.Mos6581.{Mos6581}
@@ -118,23 +119,19 @@ pub data Last : List Call → Type 0 where
 
 -- ---- what the laws say
 
--- Demand 3 of a voice of a chip, for any calls that spare it: only the ticks among them count
-pub record ChipReleases (w : Which) (c : Mos6581) (P : ℕ) : Type 0 where
-  -- 'a step down that needs S rate matches lands on clock …'
-  pub lands
-      : (k S D n : ℕ) (calls : List Call) → Needs (of w c .envelope) k S D → suc n ≡ landing (of w c .envelope .«rate_phase») P S D → Each (spares w) calls
-      → (clocksOf calls ≡ n → levelOf (of w (after calls c)) ≡ (of w c .envelope .volume + 256 - k) % 256)
-      × (clocksOf calls ≡ suc n → levelOf (of w (after calls c)) ≡ (of w c .envelope .volume + 255 - k) % 256)
-  -- 'The level changes on no other clock'
-  pub still
-      : (n : ℕ) (calls more : List Call) → ((k S D : ℕ) → Needs (of w c .envelope) k S D → suc n ≡ landing (of w c .envelope .«rate_phase») P S D → ⊥)
-      → Each (spares w) calls → Each (spares w) more → clocksOf calls ≡ n → clocksOf more ≡ suc n
-      → levelOf (of w (after more c)) ≡ levelOf (of w (after calls c))
-  -- 'and ends held at zero'
-  pub ends
-      : (k S D : ℕ) (calls : List Call) → Needs (of w c .envelope) k S D → suc k ≡ steps (of w c .envelope .volume)
-      → Each (spares w) calls → landing (of w c .envelope .«rate_phase») P S D ≤ clocksOf calls
-      → (levelOf (of w (after calls c)) ≡ 0) × (heldOf (of w (after calls c)) ≡ true)
+-- The runs of a voice's envelope of which demand 3 (`Demand3`) and the rise (`Rise`, `Starts`) speak, in a chip: whatever
+-- leads on from it sparing the voice, calls or `run` or both. Only the ticks count
+abbrev pub sparing : Which → Mos6581 → Runs
+sparing w c = record {
+  Run = (d : Mos6581) × (n : ℕ) × Leads (spares w) c d n;
+  made = λ r. r .1;
+  left = λ r. of w (r .0) .envelope;
+}
+
+-- a write that gives a voice gate 1
+pub record GateOn (w : Which) (address value : ℕ) : Type 0 where
+  pub control : register address ≡ controlOf w
+  pub gate : value % 2 ≡ 1
 
 -- The fading byte v of a chip, for any calls 'with no drive or reset since': only the ticks among them count.
 -- 'n clocks after a drive, …, the byte keeps exactly its bits whose hold exceeds n'; a floating read gives it
@@ -159,6 +156,8 @@ pub record Latched (v : Voice) : Type 0 where
 pub record Sound (v : Voice) : Type 0 where
   -- 'Falling to 0 holds the level'; a reset 'holds it exactly if the level is 0'
   pub held-is-zero : heldOf v ≡ true → levelOf v ≡ 0
+  -- 'Its period less 1 is the target' of the rate in force, and what else calls keep of an envelope
+  pub timed : Timed (v .envelope)
   -- 'Noise holds 23 stages, … shown through taps': the lines show the stages as they are
   pub noise-shows : v .oscillator .noise .numbers .visible ≡ Noise·shown (v .oscillator .noise .numbers .state)
   -- 'The phase is 24 bits'

@@ -2,23 +2,26 @@
 use Prim.Native.Nat.{ℕ, _+_, _-_, _*_, _/_, _%_, _<_}
 use native.Mathlib.Omega.{arith}
 use mathlib.Core.Path.{_≡_, refl, subst}
+use mathlib.Core.Bool.{false}
 use Rattle.laws.specs.Times.{times}
 use Rattle.bus.specs.Bus.{holds, kept}
 use Rattle.bus.proofs.Fade.{byte-fades}
-use Rattle.envelope.specs.Envelope.{periodOf, divisorFor, down, fresh, rateInForce, targetRefreshed, sustainReleaseSet}
+use Rattle.envelope.specs.Envelope.{periodOf, divisorFor, down, fresh, risingRateSelected, rateInForce, targetRefreshed, quiescent, sustainReleaseSet}
 use Rattle.envelope.specs.Sets.{setHoldLevel, setFallRate}
 use Rattle.envelope.specs.declared.Envelope.{Envelope}
+use Rattle.envelope.specs.declared.EnvelopeMotion.the-variants.{FallingToZero}
 use Rattle.envelope.proofs.Periods.{period-range, period-zero}
 use Rattle.noise.specs.Noise.{shown, fresh as Noise·fresh}
 use Rattle.waveforms.specs.Waveforms.{triangle}
 use Rattle.waveforms.proofs.Loading.{settled-zero, loaded-zero}
-use Rattle.release.specs.Release.{Settled, steps, inForce, divisorAfter, asked, matches, ZeroFrom}
+use Rattle.release.specs.Release.{SettledRelease, steps, inForce, divisorAfter, asked, matches, ZeroFrom}
 use Rattle.release.specs.StepClocks.{wait, lag, stepClock}
 use Rattle.release.specs.Sustain.{SteadyRise}
 use Rattle.edges.specs.Edges.{Matching, Releasing, Falling, Sustaining, Reaching, Edges}
 use Rattle.release.proofs.Waits.{first-match}
 use Rattle.release.proofs.Stays.{sustain-stays}
 use Rattle.release.proofs.Sustain.{sustain-holds}
+use Rattle.release.proofs.Timed.{timed-settled, fresh-timed}
 use Rattle.release.proofs.Demand3.{zero-from}
 
 matching : (p : ℕ) → p < 32767 → Matching p 8 (wait 9 p + 1)
@@ -31,27 +34,9 @@ releasing d e h v k c p =
     let s : stepClock e (periodOf 0) (steps (e .volume)) ≡ wait 9 0 + 2 + (d - 1) * 9 + lag d = simp (v, k, c, p, period-zero) (omega arith) in
     subst (ZeroFrom e) s (zero-from e (periodOf 0) h n)
 
-fresh-settled : Settled fresh (periodOf 0)
-unfolding fresh
-fresh-settled = record {
-  input = refl;
-  stage-a = refl;
-  stage-b = refl;
-  motion = refl;
-  motion-delay = refl;
-  level-delay = refl;
-  curve-delay = refl;
-  unqueued = refl;
-  unmatched = refl;
-  unheld = refl;
-  target = refl;
-  least = period-range 0 .0;
-  most = period-range 0 .1;
-  phase = omega arith;
-  divisor = refl;
-  count = omega arith;
-  level = omega arith;
-}
+fresh-settled : SettledRelease fresh (periodOf 0)
+unfolding fresh quiescent rateInForce risingRateSelected
+fresh-settled = record { settled = timed-settled false FallingToZero fresh fresh-timed refl refl refl refl; divisor = refl; count = omega arith }
 
 -- the three falls, computed
 fresh-asked : asked 0xaa 1 0xaa ≡ 671

@@ -6,7 +6,7 @@ use Rattle.bus.specs.Bus.{driven, clocks as Bus·clocks}
 use Rattle.envelope.specs.declared.Envelope.{Envelope}
 use Rattle.envelope.specs.declared.EnvelopeMotion.the-variants.{FallingToSustain}
 use Rattle.envelope.specs.Envelope.{periodOf, clocks, quiescent, fresh, sustainReleaseSet}
-use Rattle.release.specs.Release.{Settled, steps, matches, FirstMatch, ZeroFrom}
+use Rattle.release.specs.Release.{SettledRelease, steps, matches, FirstMatch, ZeroFrom}
 use Rattle.release.specs.Sustain.{SteadyRise, HoldsTop}
 use Rattle.waveforms.specs.Waveforms.{triangle, settled, loaded}
 use Rattle.noise.specs.Noise.{fresh as Noise·fresh}
@@ -17,7 +17,7 @@ Matching p t n = (e : Envelope) → quiescent e ≡ true → e .«rate_phase» �
 
 -- of every settled release with level v, divisor d, count 0, phase 0, rate 0: zero on clock n
 abbrev pub Releasing : ℕ → ℕ → ℕ → Type 0
-Releasing v d n = (e : Envelope) → Settled e (periodOf 0) → e .volume ≡ v → e .«curve_divisor» ≡ d → e .«curve_count» ≡ 0 → e .«rate_phase» ≡ 0 → ZeroFrom e n
+Releasing v d n = (e : Envelope) → SettledRelease e (periodOf 0) → e .volume ≡ v → e .«curve_divisor» ≡ d → e .«curve_count» ≡ 0 → e .«rate_phase» ≡ 0 → ZeroFrom e n
 
 -- of every envelope with level v, divisor d, count 0: the fall needs S matches
 abbrev pub Falling : ℕ → ℕ → ℕ → Type 0

@@ -42,3 +42,12 @@ module _ {Q : Envelope → Type 0} where
   -- the same run, its length written another way
   pub long : {n m : ℕ} {s t : Envelope} → n ≡ m → Keeps Q n s t → Keeps Q m s t
   long {n} {m} {s} {t} e a = subst (λ (k : ℕ). Keeps Q k s t) e a
+
+  -- what is left of a run after m clocks
+  pub rest : {n : ℕ} {s t : Envelope} (m : ℕ) → m ≤ n → Keeps Q n s t → Keeps Q (n - m) (clocks m s) t
+  rest {n} {s} m l a =
+      let i : m + (n - m) ≡ n = omega arith in
+      record {
+        arrives = times-add clocked (n - m) m s ∙ ap (λ (k : ℕ). clocks k s) i ∙ a .arrives;
+        kept = λ k q. subst Q (sym (times-add clocked k m s)) (a .kept (m + k) (omega arith));
+      }

@@ -1,8 +1,13 @@
 pub mod Clocks
 pub mod Demand3
 pub mod Keeps
+pub mod Matches
 pub mod Release
+pub mod Rise
+pub mod Stairs
+pub mod Start
 pub mod Stays
 pub mod Steps
 pub mod Sustain
+pub mod Timed
 pub mod Waits

@@ -8,41 +8,20 @@ use Rattle.laws.specs.Times.{times}
 use Rattle.envelope.specs.declared.Envelope.{Envelope}
 use Rattle.envelope.specs.declared.EnvelopeMotion.the-variants.{FallingToZero}
 use Rattle.envelope.specs.Envelope.{divisorFor, down, clocks}
+use Rattle.release.specs.Settled.{Settled, Runs}
 
 -- 'divisor one of 1, 2, 4, 8, 16, 30'
 abbrev pub isDivisor : ℕ → Bool
 isDivisor d = eqb d 1 || eqb d 2 || eqb d 4 || eqb d 8 || eqb d 16 || eqb d 30
 
--- 'Settled release' with release period P; the rate phase p is the envelope's
-pub record Settled (e : Envelope) (P : ℕ) : Type 0 where
-  -- 'gate input and both samples low'
-  pub input : e .gate .input ≡ false
-  pub stage-a : e .gate .«stage_a» ≡ false
-  pub stage-b : e .gate .«stage_b» ≡ false
-  -- 'motion FallingToZero, with no other motion's rate in force': the second follows, since no motion delay runs
-  pub motion : e .motion ≡ FallingToZero
-  -- 'no motion, level or curve delay'
-  pub motion-delay : e .«motion_delay» ≡ 0
-  pub level-delay : e .«amplitude_delay» ≡ 0
-  pub curve-delay : e .«curve_delay» ≡ 0
-  -- 'no queued divisor'
-  pub unqueued : e .«queued_curve_divisor» ≡ 0
-  -- 'no match waiting'
-  pub unmatched : e .«matched_rate» ≡ false
-  -- 'not held'
-  pub unheld : e .«floor_hold» ≡ false
-  -- 'target P-1 for release period P'; of a period only its range is used
-  pub target : e .«rate_target_phase» ≡ P - 1
-  pub least : 9 ≤ P
-  pub most : P ≤ 32767
-  -- 'phase below 32767'
-  pub phase : e .«rate_phase» < 32767
+-- 'Settled release' with release period P
+pub record SettledRelease (e : Envelope) (P : ℕ) : Type 0 where
+  -- 'gate input and both samples low, motion FallingToZero, …'
+  pub settled : Settled false FallingToZero e P
   -- 'divisor one of 1, 2, 4, 8, 16, 30'
   pub divisor : isDivisor (e .«curve_divisor») ≡ true
   -- 'curve count below it'
   pub count : e .«curve_count» < e .«curve_divisor»
-  -- the level is a byte, as its type says
-  pub level : e .volume < 256
 
 -- 'There are v steps from level v, or 256 from an unheld 0'
 unfoldable pub steps : ℕ → ℕ
@@ -83,19 +62,21 @@ landing p P S D = (P - 1 + 32767 - p) % 32767 + 2 + (S - 1) * P + cond (eqb D 1)
 abbrev pub Needs : Envelope → ℕ → ℕ → ℕ → Type 0
 Needs e k S D = (k < steps (e .volume)) × (S ≡ matches e (suc k)) × (D ≡ divisorAfter (e .volume) (e .«curve_divisor») k)
 
-pub record Demand3 (e : Envelope) (p P : ℕ) : Type 0 where
-  -- 'lands on clock …, the first clock being 1': after n clocks the level is as before the step, after n + 1 one less
+-- what runs from e show
+pub record Demand3 (s : Runs) (e : Envelope) (p P : ℕ) : Type 0 where
+  -- 'lands on clock …, the first clock being 1': a clock before it the level is as before the step, with it one less
   pub lands
-      : (k S D n : ℕ) → Needs e k S D → suc n ≡ landing p P S D
-      → (clocks n e .volume ≡ (e .volume + 256 - k) % 256) × (clocks (suc n) e .volume ≡ (e .volume + 255 - k) % 256)
+      : (k S D : ℕ) (r : s .Run) → Needs e k S D
+      → (suc (s .made r) ≡ landing p P S D → s .left r .volume ≡ (e .volume + 256 - k) % 256)
+      × (s .made r ≡ landing p P S D → s .left r .volume ≡ (e .volume + 255 - k) % 256)
   -- 'The level changes on no other clock'
   pub still
-      : (n : ℕ) → ((k S D : ℕ) → Needs e k S D → suc n ≡ landing p P S D → ⊥)
-      → clocks (suc n) e .volume ≡ clocks n e .volume
+      : (r t : s .Run) → s .made t ≡ suc (s .made r) → ((k S D : ℕ) → Needs e k S D → s .made t ≡ landing p P S D → ⊥)
+      → s .left t .volume ≡ s .left r .volume
   -- 'and ends held at zero'
   pub ends
-      : (k S D n : ℕ) → Needs e k S D → suc k ≡ steps (e .volume) → landing p P S D ≤ n
-      → (clocks n e .volume ≡ 0) × (clocks n e .«floor_hold» ≡ true)
+      : (k S D : ℕ) (r : s .Run) → Needs e k S D → suc k ≡ steps (e .volume) → landing p P S D ≤ s .made r
+      → (s .left r .volume ≡ 0) × (s .left r .«floor_hold» ≡ true)
 
 -- 'Both sides of each edge': 'first match on clock n'
 abbrev pub FirstMatch : Envelope → ℕ → Type 0

@@ -18,6 +18,10 @@ pub fn seeded(seed: u64) -> Rise {
     };
     let start = match seed % 2 {
         0 => Start::Late {
+            level: match random.below(2) {
+                0 => 0,
+                _ => level(&mut random),
+            },
             sustaining: random.below(2) == 0,
         },
         _ => Start::Settled(level(&mut random)),

@@ -51,9 +51,9 @@ pub struct Rates {
 pub enum Start {
     /// Rising from this level, with nothing else under way.
     Settled(u8),
-    /// Held at zero with nothing under way, falling to zero or to the sustain level; a gate-on is
-    /// written.
-    Late { sustaining: bool },
+    /// At this level with nothing under way, held at it if it is zero, falling to zero or to the
+    /// sustain level; a gate-on is written.
+    Late { level: u8, sustaining: bool },
 }
 
 pub struct Rise {
@@ -67,8 +67,10 @@ impl Rise {
     pub fn new(start: Start, rates: Rates, phase: u16, random: &mut Random) -> Self {
         let (late, volume, motion, rate) = match start {
             Start::Settled(level) => (false, level, RISING, rates.attack),
-            Start::Late { sustaining: true } => (true, 0, FALLING_TO_SUSTAIN, rates.release),
-            Start::Late { sustaining: false } => (true, 0, FALLING_TO_ZERO, rates.release),
+            Start::Late { level, sustaining } => match sustaining {
+                true => (true, level, FALLING_TO_SUSTAIN, rates.release),
+                false => (true, level, FALLING_TO_ZERO, rates.release),
+            },
         };
         let start = State {
             volume,
@@ -90,7 +92,7 @@ impl Rise {
             curve_count: random.byte(),
             curve_divisor: random.pick(&[1, 2, 4, 8, 16, 30]),
             queued_curve_divisor: 0,
-            floor_hold: late,
+            floor_hold: late && volume == 0,
             readback: random.byte(),
         };
         Self {
@@ -268,31 +270,36 @@ fn rise_from_each_phase(rises: &mut Vec<Rise>, attack: u8, random: &mut Random) 
 }
 
 /// Phases about the match of the decay rate, in force for one clock, and about that of the attack
-/// rate, in force from the second clock on; also where the two rates are one.
+/// rate, in force from the second clock on; also where the two rates are one, and from other levels
+/// than a held zero.
 fn start_late_at_each_phase(rises: &mut Vec<Rise>, attack: u8, random: &mut Random) {
     let new = target(attack);
     for sustaining in [false, true] {
         let rates = other_rates(attack, random);
         let old = target(rates.decay);
         let phases = [old - 1, old, old + 1, new - 2, new - 1, new, PHASES - 1, 0];
-        start_late(rises, sustaining, rates, &phases, random);
+        start_late(rises, 0, sustaining, rates, &phases, random);
+        let level = if sustaining { random.byte() } else { 0xff };
+        let phases = [old, new - 1, new];
+        start_late(rises, level, sustaining, rates, &phases, random);
         let rates = Rates {
             decay: attack,
             ..rates
         };
-        start_late(rises, !sustaining, rates, &[new - 1, new], random);
+        start_late(rises, 0, !sustaining, rates, &[new - 1, new], random);
     }
 }
 
 fn start_late(
     rises: &mut Vec<Rise>,
+    level: u8,
     sustaining: bool,
     rates: Rates,
     phases: &[u16],
     random: &mut Random,
 ) {
     for &phase in phases {
-        let rise = Rise::new(Start::Late { sustaining }, rates, phase, random);
+        let rise = Rise::new(Start::Late { level, sustaining }, rates, phase, random);
         rises.push(rise.take(2, CLOCKS_PAST_A_STEP));
     }
 }
@@ -301,9 +308,9 @@ fn start_late(
 /// levels do not show them, the state does.
 fn stop_on_the_way(rises: &mut Vec<Rise>, attack: u8, random: &mut Random) {
     let rates = other_rates(attack, random);
-    let sustaining = attack / 4 % 2 == 0;
+    let (level, sustaining) = (0, attack / 4 % 2 == 0);
     for phase in [target(rates.decay), target(attack) - 1] {
-        let rise = Rise::new(Start::Late { sustaining }, rates, phase, random);
+        let rise = Rise::new(Start::Late { level, sustaining }, rates, phase, random);
         rises.push(rise.stop_after(1 + u32::from(attack % 4)));
     }
     let rise = Rise::new(Start::Settled(0xfe), rates, target(attack), random);
