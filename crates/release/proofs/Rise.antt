@@ -4,10 +4,11 @@ use Prim.Native.Nat.{ℕ, zero, suc, _+_, _-_, _*_, _%_, _<_, _≤_}
 use native.Mathlib.Omega.{arith}
 use native.Mathlib.Nat.{suc-mul, zero-mul}
 use mathlib.Core.Path.{_≡_, refl, ap, sym, _∙_, subst}
-use mathlib.Core.Bool.{Bool, true, false, cond}
+use mathlib.Core.Bool.{false}
 use borrow.Author.Tests.{ne-eqb, eqb-true, eqb-false}
 use lib.Dec.{eqb}
 use Rattle.laws.specs.Times.{times}
+use Rattle.laws.proofs.Cond.{by-test}
 use Rattle.laws.proofs.Times.{times-first}
 use Rattle.envelope.specs.declared.Envelope.{Envelope}
 use Rattle.envelope.specs.Envelope.{up, phaseUp, clocked}
@@ -24,11 +25,8 @@ use Rattle.release.proofs.Clocks.{rising, match-lifts, lift-waits, step
 
 steps-up-closed : (v : ℕ) → v < 256 → stepsUp v ≡ (510 - v) % 256 + 1
 unfolding stepsUp
-steps-up-closed v l = go (eqb v 0xff) refl
-  where
-    go : (b : Bool) → eqb v 0xff ≡ b → cond b 256 (255 - v) ≡ (510 - v) % 256 + 1
-    go true e = omega (arith, eqb-true v 0xff e)
-    go false e = omega (arith, eqb-false v 0xff e)
+steps-up-closed v l =
+    by-test (λ (n : ℕ). n ≡ (510 - v) % 256 + 1) (eqb v 0xff) _ _ (λ e. omega (arith, eqb-true v 0xff e)) (λ e. omega (arith, eqb-false v 0xff e))
 
 level-up-closed : (v k : ℕ) → v < 256 → times k up v ≡ (v + k) % 256
 unfolding times up
@@ -117,41 +115,32 @@ module _ {f : Envelope} {P : ℕ} (s : SettledRise f P) where
     end : (x : Envelope) → x .volume ≡ 0xff → x .volume ≡ (v + stepsUp v) % 256
     end x a = a ∙ omega (arith, steps-up-closed v byte)
 
-    abbrev clock : ℕ → ℕ
-    clock k = r + 1 + (k - 1) * P
-
-    clock-clk : (k : ℕ) → 1 ≤ k → clock k ≡ clk P r k
-    unfolding clk
-    clock-clk zero l = absurd (omega arith)
-    clock-clk (suc k) l = ap (λ (n : ℕ). r + 1 + n * P) (omega arith)
-
-    module _ (runs : Runs) (from : From X runs) where
-      abbrev top : ℕ
-      top = stepsUp v
-
-      last : clock top ≡ clk P r top
-      last = clock-clk top (omega (arith, steps-up-closed v byte))
-
-      pub rises : Rise runs v clock
+    module _ (first : ℕ) (next : first ≡ r + 1) where
+      -- step k, counted from 1
+      step-clk : (k : ℕ) → first + (k - 1) * P ≡ clk P r (suc (k - 1))
       unfolding clk
-      rises = record {
+      step-clk k = ap (λ (n : ℕ). n + (k - 1) * P) next
+
+      step-suc : (k : ℕ) → 1 ≤ k → suc (k - 1) ≡ k
+      step-suc k l = omega arith
+
+      last : first + (stepsUp v - 1) * P ≡ clk P r (stepsUp v)
+      last = step-clk (stepsUp v) ∙ ap (clk P r) (step-suc (stepsUp v) (omega (arith, steps-up-closed v byte)))
+
+      pub rises : (runs : Runs) → From X runs → Rise runs v (λ k. first + (k - 1) * P)
+      rises runs from = record {
         lands = λ k t m.
-            let i : k - 1 < top = omega (arith, m) in
-            let b : v + (k - 1) ≡ v + k - 1 = omega (arith, m) in
-            let a : v + suc (k - 1) ≡ v + k = omega (arith, m) in (
-              (λ q. level-before stairs _ level end runs from (k - 1) t i q ∙ ap (λ (x : ℕ). x % 256) b),
-              (λ q. level-on stairs _ level end runs from (k - 1) t i q ∙ ap (λ (x : ℕ). x % 256) a),
+            let i : k - 1 < stepsUp v = omega (arith, m) in
+            let b : v + (k - 1) ≡ v + k - 1 = omega (arith, m) in (
+              (λ q. level-before stairs _ level end runs from (k - 1) t i (q ∙ step-clk k) ∙ ap (λ (x : ℕ). x % 256) b),
+              (λ q. level-on stairs _ level end runs from (k - 1) t i (q ∙ step-clk k) ∙ ap (λ (x : ℕ). (v + x) % 256) (step-suc k (m .0))),
             );
         tops = λ t q. level-last stairs _ level end runs from t (q ∙ last);
         still = λ t u q l none.
-            level-still stairs _ level end runs from t u q (omega (arith, l, last)) (λ k m i. none (suc k) (omega arith, m) (i ∙ sym (clock-clk (suc k) (omega arith))));
+            level-still stairs _ level end runs from t u q (omega (arith, l, last)) (λ k m i. none (suc k) (omega arith, m) (i ∙ ap (clk P r) (sym (step-suc (suc k) (omega arith))) ∙ sym (step-clk (suc k))));
       }
 
 -- THE LAW
 pub rise : (e : Envelope) (P : ℕ) → SettledRise e P → (s : Runs) → From e s → Rise s (e .volume) (landingUp (e .«rate_phase») P)
 unfolding wait
-rise e P h s f =
-    let w = wait P (e .«rate_phase») in
-    let same : (k : ℕ) → w + 1 + 2 + 1 + (k - 1) * P ≡ landingUp (e .«rate_phase») P k = λ k. omega arith in
-    subst (λ (clock : ℕ → ℕ). Rise s (e .volume) clock) (λ i k. same k i)
-    (rises h e (w + 1 + 2) (e .«curve_divisor») (e .volume) (join (to-first h) (to-lift h _ _ _)) (h .level) s f)
+rise e P h = rises h e (wait P (e .«rate_phase») + 1 + 2) _ (e .volume) (join (to-first h) (to-lift h _ _ _)) (h .level) _ (omega arith)

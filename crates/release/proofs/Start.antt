@@ -1,13 +1,13 @@
 -- A gate-on with nothing under way: the first step up lands on clock ((A-2-p) mod 32767)+5, or on clock 4 if the old
 -- rate's match falls on clock 1, and each later one A clocks after the one before. Assumes nothing.
-use Prim.Native.Nat.{ℕ, _+_, _-_, _*_, _%_, _<_}
+use Prim.Native.Nat.{ℕ, _+_, _-_, _*_, _<_}
 use native.Mathlib.Omega.{arith}
 use mathlib.Core.Path.{_≡_, refl, ap, sym, _∙_, subst}
 use mathlib.Core.Bool.{Bool, true, false, cond}
 use borrow.Author.Tests.{eq-eqb, ne-eqb, eqb-true, eqb-false}
 use lib.Dec.{eqb}
 use Rattle.laws.specs.Times.{times}
-use Rattle.laws.proofs.Cond.{either}
+use Rattle.laws.proofs.Cond.{by-test, either}
 use Rattle.envelope.specs.declared.Envelope.{Envelope}
 use Rattle.envelope.specs.declared.EnvelopeMotion.{EnvelopeMotion}
 use Rattle.envelope.specs.declared.EnvelopeMotion.the-variants.{Rising}
@@ -140,20 +140,14 @@ module _ (e : Envelope) (h : Resting e) where
   -- THE LAW
   pub late-start : (s : Runs) → From (gateSet e true) s → Starts s e
   unfolding startUp wait
-  late-start s f = go (eqb (e .«rate_phase») (D - 1)) refl
-    where
-      g : From (Written (e .«rate_phase») (e .readback)) s
-      g = subst (λ (x : Envelope). From x s) written f
-
-      next : phaseUp (e .«rate_phase») ≡ (e .«rate_phase» + 1) % 32767
-      next = phase-up (e .«rate_phase») (h .phase)
-
-      go : (t : Bool) → eqb (e .«rate_phase») (D - 1) ≡ t → Rise s (e .volume) (λ k. cond t 4 ((A - 2 + 32767 - e .«rate_phase») % 32767 + 5) + (k - 1) * A)
-      go true q = rises (settles (e .«rate_phase») (h .phase)) _ 3 _ _ (from-match _ _ (h .phase) (eqb-true _ _ q)) (h .level) s g
-      go false q =
-          let p = phaseUp (e .«rate_phase») in
-          let l : p < 32767 = omega (arith, next) in
-          let same : (k : ℕ) → 1 + (wait A p + 3) + 1 + (k - 1) * A ≡ (A - 2 + 32767 - e .«rate_phase») % 32767 + 5 + (k - 1) * A =
-          λ k. omega (arith, next, h .phase, period-range (e .«rise_rate»)) in
-          subst (λ (clock : ℕ → ℕ). Rise s (e .volume) clock) (λ i k. same k i)
-          (rises (settles p l) _ _ _ _ (join (one _ _ (refl, refl) (samples _ _ (eqb-false _ _ q))) (from-sample p l)) (h .level) s g)
+  late-start s f =
+      let p = e .«rate_phase» in
+      let next = phase-up p (h .phase) in
+      let l : phaseUp p < 32767 = omega (arith, next) in
+      let runs = subst (λ (x : Envelope). From x s) written f in
+      let v = e .volume in
+      by-test (λ (first : ℕ). Rise s v (λ k. first + (k - 1) * A)) (eqb p (D - 1)) _ _
+      (λ q. rises (settles p (h .phase)) _ 3 _ v (from-match _ _ (h .phase) (eqb-true _ _ q)) (h .level) _ (omega arith) s runs)
+      (λ q.
+      let starts = join (one _ _ (refl, refl) (samples p (e .readback) (eqb-false _ _ q))) (from-sample (phaseUp p) l) in
+      rises (settles (phaseUp p) l) _ (1 + (wait A (phaseUp p) + 3)) _ v starts (h .level) _ (omega (arith, next, h .phase, period-range (e .«rise_rate»))) s runs)
