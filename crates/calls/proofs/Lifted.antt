@@ -3,10 +3,9 @@
 use mathlib.Core.Path.{_≡_, refl, ap, sym, subst, _∙_}
 use mathlib.Core.Bool.{Bool, true, false, cond}
 use mathlib.Core.List.{List, [], _∷_}
-use Prim.Native.Nat.{ℕ, suc, _+_}
-use native.Mathlib.Omega.{arith}
+use Prim.Native.Nat.{ℕ}
 use Rattle.laws.specs.Times.{times}
-use Rattle.laws.proofs.Times.{times-first, times-add}
+use Rattle.laws.proofs.Times.{times-first}
 use Rattle.envelope.specs.Envelope.{clocked as Envelope·clocked, clocks as Envelope·clocks, periodOf, risingRateSelected, rateInForce, quiescent, gateSet}
 use Rattle.envelope.specs.declared.Envelope.{Envelope}
 use Rattle.envelope.specs.declared.EnvelopeMotion.the-variants.{Rising}
@@ -14,14 +13,14 @@ use Rattle.envelope.proofs.Quiet.{quiet}
 use Rattle.release.specs.Release.{SettledRelease, Demand3}
 use Rattle.release.specs.Rise.{SettledRise, landingUp, Rise, Resting, Starts}
 use Rattle.release.specs.Settled.{From}
-use Rattle.release.specs.Sustain.{SteadyRise}
+use Rattle.release.specs.Sustain.{SteadyRise, HoldsTop}
 use Rattle.release.proofs.Demand3.{demand-3}
 use Rattle.release.proofs.Rise.{rise}
 use Rattle.release.proofs.Start.{late-start}
 use Rattle.release.proofs.Sustain.{sustain-holds}
 use Rattle.release.proofs.Timed.{timed-settled, timed-resting}
 use Rattle.oscillator.specs.Ways.{stepwise}
-use Rattle.sid.specs.Sid.{fresh, writtenEnvelope, writtenVoice, written, ticked, levelOf, Call, write, read, tick, clear, potX, potY, calledBy, called, afterBy, after, clocksOf}
+use Rattle.sid.specs.Sid.{fresh, writtenEnvelope, writtenVoice, written, levelOf, Call, write, read, tick, clear, potX, potY, calledBy, called, afterBy, after, clocksOf}
 use Rattle.sid.specs.declared.Voice.{Voice}
 use Rattle.sid.specs.declared.Mos6581.{Mos6581}
 use Rattle.calls.specs.Calls.{Which, of, Each, none, next, spares, sparing, GateOn}
@@ -51,7 +50,7 @@ envelope-after w (potY value ∷ calls) c (next h r) =
     envelope-after w calls (called (potY value) c) r ∙ ap (λ (v : Voice). Envelope·clocks (clocksOf calls) (v .envelope)) (pot-y-voice w c value)
 
 -- so it does by whatever leads on sparing its voice
-sees-ticks : (w : Which) (c : Mos6581) → From (of w c .envelope) (sparing w c)
+pub sees-ticks : (w : Which) (c : Mos6581) → From (of w c .envelope) (sparing w c)
 sees-ticks w c r =
     let l = r .2 in
     ap (λ (x : Mos6581). of w x .envelope) (sym (l .same)) ∙ envelope-after w (l .calls) c (l .allowed) ∙ ap (λ (n : ℕ). Envelope·clocks n (of w c .envelope)) (l .clocks)
@@ -97,22 +96,5 @@ module _ (w : Which) (calls : List Call) where
   chip-late-start-fresh address value q low g = chip-late-start w chip address value (timed-resting envelope (sound-fresh w calls .timed) q low) g
 
 -- 'Sustain 0xf0 holds at 0xff': from the tick that brings a steady rise there, through any calls that spare the voice
-pub chip-sustains
-    : (w : Which) (calls more : List Call) (c : Mos6581)
-    → SteadyRise (of w c .envelope)
-    → of w c .envelope .«hold_level» ≡ 0xff
-    → Each (spares w) calls
-    → Each (spares w) more
-    → (levelOf (of w (after calls c)) ≡ 0xff → ⊥)
-    → levelOf (of w (ticked (after calls c))) ≡ 0xff
-    → levelOf (of w (after more (ticked (after calls c)))) ≡ 0xff
-unfolding times
-chip-sustains w calls more c h s r q below top =
-    let e = of w c .envelope in
-    let n = clocksOf calls in
-    let volume : Envelope → ℕ = λ x. x .volume in
-    let before = envelope-after w calls c r in
-    let on : of w (ticked (after calls c)) .envelope ≡ Envelope·clocks (suc n) e = tick-envelope stepwise w (after calls c) ∙ ap Envelope·clocked before in
-    let later = envelope-after w more (ticked (after calls c)) q ∙ ap (Envelope·clocks (clocksOf more)) on in
-    ap volume (later ∙ times-add Envelope·clocked (clocksOf more) (suc n) e)
-    ∙ sustain-holds e h s n (λ k. below (ap volume before ∙ k)) (ap volume (sym on) ∙ top) (suc n + clocksOf more) (omega arith)
+pub chip-sustains : (w : Which) (c : Mos6581) → SteadyRise (of w c .envelope) → of w c .envelope .«hold_level» ≡ 0xff → HoldsTop (sparing w c)
+chip-sustains w c h s = sustain-holds (of w c .envelope) h s (sparing w c) (sees-ticks w c)

@@ -15,7 +15,7 @@ use Rattle.sid.proofs.Joined.{after-join, after-ticks, count-ticks}
 use Rattle.calls.specs.Calls.{Which, of, Each, none, next, spares, floating, undriven, leavesOff, Leads, Fades, Floats, mostSince, Recent, Ahead}
 use Rattle.calls.proofs.Voices.{tick-cycle}
 use Rattle.calls.proofs.Leaks.{calls-as-01}
-use Rattle.calls.proofs.Lifted.{envelope-after}
+use Rattle.calls.proofs.Lifted.{sees-ticks}
 
 clocks-join : (calls more : List Call) → clocksOf (calls ++ more) ≡ clocksOf calls + clocksOf more
 unfolding clocksOf
@@ -77,9 +77,7 @@ module _ {allows : Call → Bool} where
 -- an envelope has made n clocks, of which `demand-3`, `rise`, `late-start` and `sustain-holds` speak
 pub run-envelope : (w : Which) (n : ℕ) (c : Mos6581) → of w (ticks n c) .envelope ≡ Envelope·clocks n (of w c .envelope)
 unfolding spares
-run-envelope w n c =
-    run-calls (run-leads {allows = spares w} n c refl) (λ (x : Mos6581). of w x .envelope ≡ Envelope·clocks n (of w c .envelope))
-    (λ calls r q. envelope-after w calls c r ∙ ap (λ (m : ℕ). Envelope·clocks m (of w c .envelope)) q)
+run-envelope w n c = sees-ticks w c (ticks n c, n, run-leads n c refl)
 
 -- its cycle has counted them
 pub run-cycle : (n : ℕ) (c : Mos6581) (k : ℕ) → c .cycle ≡ k % 2 ^ 64 → ticks n c .cycle ≡ (k + n) % 2 ^ 64

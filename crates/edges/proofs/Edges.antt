@@ -15,10 +15,12 @@ use Rattle.noise.specs.Noise.{shown, fresh as Noise·fresh}
 use Rattle.waveforms.specs.Waveforms.{triangle}
 use Rattle.waveforms.proofs.Loading.{settled-zero, loaded-zero}
 use Rattle.release.specs.Release.{SettledRelease, steps, inForce, divisorAfter, asked, matches, ZeroFrom}
+use Rattle.release.specs.Settled.{alone}
 use Rattle.release.specs.StepClocks.{wait, lag, stepClock}
 use Rattle.release.specs.Sustain.{SteadyRise}
 use Rattle.edges.specs.Edges.{Matching, Releasing, Falling, Sustaining, Reaching, Edges}
 use Rattle.release.proofs.Waits.{first-match}
+use Rattle.release.proofs.Stairs.{clocks-alone}
 use Rattle.release.proofs.Stays.{sustain-stays}
 use Rattle.release.proofs.Sustain.{sustain-holds}
 use Rattle.release.proofs.Timed.{timed-settled, fresh-timed}
@@ -85,7 +87,9 @@ still-rises e byte h = record {
 
 reaching : (byte : ℕ) → byte / 16 * 17 ≡ 0xff → Reaching byte
 unfolding sustainReleaseSet targetRefreshed
-reaching byte s e h = sustain-holds (sustainReleaseSet e byte) (still-rises e byte h) s
+reaching byte s e h =
+    let x = sustainReleaseSet e byte in
+    sustain-holds x (still-rises e byte h) s (alone x) (clocks-alone x)
 
 pub edges : Edges
 unfolding kept holds matches steps wait lag fresh triangle Noise·fresh shown

@@ -7,6 +7,7 @@ use Rattle.envelope.specs.declared.Envelope.{Envelope}
 use Rattle.envelope.specs.declared.EnvelopeMotion.the-variants.{FallingToSustain}
 use Rattle.envelope.specs.Envelope.{periodOf, clocks, quiescent, fresh, sustainReleaseSet}
 use Rattle.release.specs.Release.{SettledRelease, steps, matches, FirstMatch, ZeroFrom}
+use Rattle.release.specs.Settled.{alone}
 use Rattle.release.specs.Sustain.{SteadyRise, HoldsTop}
 use Rattle.waveforms.specs.Waveforms.{triangle, settled, loaded}
 use Rattle.noise.specs.Noise.{fresh as Noise·fresh}
@@ -37,7 +38,7 @@ Sustaining byte v =
 
 -- of every steady rise: with that sustain/release byte, the level is 0xff from the clock on which it reaches it
 abbrev pub Reaching : ℕ → Type 0
-Reaching byte = (e : Envelope) → SteadyRise e → HoldsTop (sustainReleaseSet e byte)
+Reaching byte = (e : Envelope) → SteadyRise e → HoldsTop (alone (sustainReleaseSet e byte))
 
 pub record Edges : Type 0 where
   -- 'Bus 0xff: bit 0 there at 11 clocks, gone at 12. 0x80 at 43007, 0 at 43008.'

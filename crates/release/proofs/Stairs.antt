@@ -14,6 +14,10 @@ use Rattle.release.proofs.Keeps.{Keeps, after}
 pub clocks-alone : (e : Envelope) → From e (alone e)
 clocks-alone e n = refl
 
+-- and its level after n clocks is what any run of n clocks leaves
+pub seen : (X : Envelope) (runs : Runs) → From X runs → (r : runs .Run) (n : ℕ) → runs .made r ≡ n → runs .left r .volume ≡ clocks n X .volume
+seen X runs from r n q = ap (λ (x : Envelope). x .volume) (from r) ∙ ap (λ (i : ℕ). clocks i X .volume) q
+
 -- K steps from X: step k lands on clock g k, Q k holds from it to the next, and with the last End
 pub record Stairs (Q : ℕ → Envelope → Type 0) (End : Envelope → Type 0) (g : ℕ → ℕ) (K : ℕ) (X : Envelope) : Type 0 where
   pub start : g 0 ≡ 0
@@ -73,17 +77,14 @@ module _
     {Q : ℕ → Envelope → Type 0} {End : Envelope → Type 0} {g : ℕ → ℕ} {K : ℕ} {X : Envelope} (s : Stairs Q End g K X)
     (L : ℕ → ℕ) (level : (k : ℕ) → k < K → (x : Envelope) → Q k x → x .volume ≡ L k) (end : (x : Envelope) → End x → x .volume ≡ L K)
     (runs : Runs) (from : From X runs) where
-  seen : (r : runs .Run) (n : ℕ) → runs .made r ≡ n → runs .left r .volume ≡ clocks n X .volume
-  seen r n q = ap (λ (x : Envelope). x .volume) (from r) ∙ ap (λ (i : ℕ). clocks i X .volume) q
-
   flat-level : (k n : ℕ) → k < K → g k ≤ n → n < g (suc k) → clocks n X .volume ≡ L k
   flat-level k n l a b = level k l (clocks n X) (s .flat k l n a b)
 
   pub level-before : (k : ℕ) (r : runs .Run) → k < K → suc (runs .made r) ≡ g (suc k) → runs .left r .volume ≡ L k
-  level-before k r l q = seen r _ refl ∙ flat-level k _ l (omega (arith, s .up k l)) (omega arith)
+  level-before k r l q = seen X runs from r _ refl ∙ flat-level k _ l (omega (arith, s .up k l)) (omega arith)
 
   pub level-on : (k : ℕ) (r : runs .Run) → k < K → runs .made r ≡ g (suc k) → runs .left r .volume ≡ L (suc k)
-  level-on k r l q = seen r _ q ∙ go (decLt (suc k) K)
+  level-on k r l q = seen X runs from r _ q ∙ go (decLt (suc k) K)
     where
       go : Dec (suc k < K) → clocks (g (suc k)) X .volume ≡ L (suc k)
       go (yes m) = flat-level (suc k) _ m (omega arith) (s .up (suc k) m)
@@ -100,7 +101,7 @@ module _
   level-still r t q l none =
       let n = runs .made r in
       let j = locate g (s .start) K n (omega arith) in
-      seen t _ q
+      seen X runs from t _ q
       ∙ flat-level (j .0) (suc n) (j .1) (omega (arith, j .2)) (omega (arith, q, j .3, none (j .0) (j .1)))
       ∙ sym (flat-level (j .0) n (j .1) (j .2) (j .3))
-      ∙ sym (seen r _ refl)
+      ∙ sym (seen X runs from r _ refl)

@@ -8,6 +8,7 @@ use borrow.Author.Tests.{eq-eqb, ne-eqb, eqb-true, eqb-false}
 use lib.Dec.{eqb}
 use Rattle.laws.specs.Times.{times}
 use Rattle.laws.proofs.Cond.{by-test, either}
+use Rattle.envelope.specs.Sets.{setGate, setRequestedMotion, setMotionDelay, setRateTargetPhase}
 use Rattle.envelope.specs.declared.Envelope.{Envelope}
 use Rattle.envelope.specs.declared.EnvelopeMotion.{EnvelopeMotion}
 use Rattle.envelope.specs.declared.EnvelopeMotion.the-variants.{Rising}
@@ -18,7 +19,7 @@ use Rattle.release.specs.Release.{At}
 use Rattle.release.specs.Rise.{SettledRise, Rise, Resting, startUp, Starts}
 use Rattle.release.specs.Settled.{Runs, From}
 use Rattle.release.specs.StepClocks.{wait}
-use Rattle.release.proofs.Clocks.{lift-waits}
+use Rattle.release.proofs.Clocks.{moving, lift-waits}
 use Rattle.release.proofs.Keeps.{Keeps, one, join, long, rest}
 use Rattle.release.proofs.Waits.{phase-up}
 use Rattle.release.proofs.Matches.{early, to-first}
@@ -28,27 +29,10 @@ use Rattle.release.proofs.Timed.{timed-settled}
 -- a note that has begun, its gate input high; level, rates and divisor are those of e
 abbrev begun : Envelope → Bool → Bool → EnvelopeMotion → EnvelopeMotion → ℕ → ℕ → ℕ → Bool → ℕ → ℕ → ℕ → Envelope
 begun e a b m asked delay target phase matched amplitude count readback =
-    record {
-      volume = e .volume;
-      «rise_rate» = e .«rise_rate»;
-      «decay_rate» = e .«decay_rate»;
-      «hold_level» = e .«hold_level»;
-      «fall_rate» = e .«fall_rate»;
-      gate = record { input = true; «stage_a» = a; «stage_b» = b };
-      motion = m;
-      «requested_motion» = asked;
-      «motion_delay» = delay;
-      «rate_phase» = phase;
-      «rate_target_phase» = target;
-      «matched_rate» = matched;
-      «amplitude_delay» = amplitude;
-      «curve_delay» = 0;
-      «curve_count» = count;
-      «curve_divisor» = e .«curve_divisor»;
-      «queued_curve_divisor» = 0;
-      «floor_hold» = false;
-      readback = readback;
-    }
+    setGate
+    (setRequestedMotion
+    (setMotionDelay (setRateTargetPhase (moving true m e phase matched amplitude 0 count (e .«curve_divisor») 0 (e .volume) false readback) target) delay) asked)
+    (record { input = true; «stage_a» = a; «stage_b» = b })
 
 module _ (e : Envelope) (h : Resting e) where
   abbrev A : ℕ

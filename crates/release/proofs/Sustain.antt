@@ -16,7 +16,9 @@ use Rattle.envelope.specs.declared.EnvelopeMotion.the-variants.{Rising, Falling
 use Rattle.envelope.specs.declared.GateHistory.{GateHistory}
 use Rattle.envelope.specs.Envelope.{risingRateSelected, targetRefreshed, levelRead, divisorCommitted, gateSampled, motionTaken, motionCommitted, divisorSelected, topReached, up, steppedUp, stepped, amplitudeDue, amplitudeClocked, curveClocked, curveCounted, matchUsed, matchConsumed, phaseUp, rateClocked, clocked, clocks}
 use Rattle.envelope.proofs.Quiet.{gate-still, motion-still}
+use Rattle.release.specs.Settled.{Runs, From}
 use Rattle.release.specs.Sustain.{SteadyRise, Topped, HoldsTop}
+use Rattle.release.proofs.Stairs.{seen}
 use Rattle.release.proofs.Waits.{phase-up}
 use Rattle.release.proofs.Stays.{Of, divisor-keeps, counters-keep, level-keeps, Sustained, sustained-level, sustain-stays}
 
@@ -277,11 +279,13 @@ rise-clocks (suc n) e r f =
     (rise-clocks n e r f)
 
 -- THE LAW
-pub sustain-holds : (e : Envelope) → SteadyRise e → e .«hold_level» ≡ 0xff → HoldsTop e
+pub sustain-holds : (e : Envelope) → SteadyRise e → e .«hold_level» ≡ 0xff → (s : Runs) → From e s → HoldsTop s
 unfolding times
-sustain-holds e h s n below top m l =
+sustain-holds e h s runs from r t u q below top l =
+    let n = runs .made r in
+    let m = runs .made u in
     let x = clocks n e in
-    let r : Rises e = record {
+    let rising : Rises e = record {
       input = h .input ∙ sym (h .stage-a);
       samples = h .stage-a ∙ sym (h .stage-b);
       motion = h .motion;
@@ -290,9 +294,12 @@ sustain-holds e h s n below top m l =
       top = s;
       period = h .target;
     } in
-    let i : m ≡ suc n + (m - suc n) = omega arith in
-    ap (λ (k : ℕ). clocks k e .volume) i
+    let before : x .volume ≡ 0xff → ⊥ = λ k. below (seen e runs from r n refl ∙ k) in
+    let i : m ≡ suc n + (m - suc n) = omega (arith, q, l) in
+    seen e runs from u _ i
     ∙ ap (λ (y : Envelope). y .volume) (sym (times-add clocked (m - suc n) (suc n) e))
     ∙ ⊎-elim
-    (λ a. ⊎-elim (λ t. top-stays (clocked x) t (m - suc n)) (λ b. absurd (below (b .2 top))) (rise-clock x (a .0) (a .1)))
-    (λ k. absurd (below (k 0))) (rise-clocks n e r (inl (h .level-delay)))
+    (λ a.
+    ⊎-elim (λ k. top-stays (clocked x) k (m - suc n)) (λ b. absurd (before (b .2 (sym (seen e runs from t (suc n) q) ∙ top))))
+    (rise-clock x (a .0) (a .1)))
+    (λ k. absurd (before (k 0))) (rise-clocks n e rising (inl (h .level-delay)))

@@ -1,5 +1,5 @@
--- What a settled release (document 01) and a settled rise (document 02, request 11) have in common: the state, and the
--- runs that a law of either speaks of.
+-- What a settled release (document 01) and a settled rise (document 02, request 11) have in common: the state, the runs
+-- that a law of either speaks of, and what calls keep of an envelope, by which its period is a rate's.
 use Prim.Native.Nat.{ℕ, _-_, _<_, _≤_}
 use mathlib.Core.Path.{_≡_}
 use mathlib.Core.Bool.{Bool, true, false, cond}

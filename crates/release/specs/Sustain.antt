@@ -1,10 +1,10 @@
 -- 'Sustain 0xf0 holds at 0xff', from the clock on which a rise reaches 0xff: its states, and what it claims.
-use Prim.Native.Nat.{ℕ, suc, _≤_}
+use Prim.Native.Nat.{suc, _≤_}
 use mathlib.Core.Path.{_≡_}
 use mathlib.Core.Bool.{true}
 use Rattle.envelope.specs.declared.Envelope.{Envelope}
 use Rattle.envelope.specs.declared.EnvelopeMotion.the-variants.{Rising, FallingToSustain}
-use Rattle.envelope.specs.Envelope.{clocks}
+use Rattle.release.specs.Settled.{Runs}
 
 -- a rise with its gate left high and nothing delayed; a match may wait, and level, phase and curve are free
 pub record SteadyRise (e : Envelope) : Type 0 where
@@ -33,6 +33,8 @@ pub record Topped (e : Envelope) : Type 0 where
   pub level-delay : e .«amplitude_delay» ≡ 0
   pub curve-delay : e .«curve_delay» ≡ 0
 
--- from a clock that brings the level to 0xff it is 0xff after every later one
-abbrev pub HoldsTop : Envelope → Type 0
-HoldsTop e = (n : ℕ) → (clocks n e .volume ≡ 0xff → ⊥) → clocks (suc n) e .volume ≡ 0xff → (m : ℕ) → suc n ≤ m → clocks m e .volume ≡ 0xff
+-- what runs show: from a clock that brings the level to 0xff it is 0xff after every later one
+abbrev pub HoldsTop : Runs → Type 0
+HoldsTop s =
+    (r t u : s .Run) → s .made t ≡ suc (s .made r) → (s .left r .volume ≡ 0xff → ⊥) → s .left t .volume ≡ 0xff → s .made t ≤ s .made u
+    → s .left u .volume ≡ 0xff
