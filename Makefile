@@ -22,6 +22,7 @@ lists:
 	tools/oracle/target/release/oracle list bus > crates/bus_cases/data/bus
 	tools/oracle/target/release/oracle list envelope > crates/envelope_cases/data/envelope
 	tools/oracle/target/release/oracle list rises > crates/envelope_cases/data/rises
+	tools/oracle/target/release/oracle list forecasts > crates/forecast_cases/stdin
 	tools/oracle/target/release/oracle list oscillator_calls > crates/oscillator_cases/data/calls
 	tools/oracle/target/release/oracle list oscillator_states > crates/oscillator_cases/data/states
 	tools/oracle/target/release/oracle list replay_scores > crates/replay_cases/data/scores
@@ -41,6 +42,7 @@ compare:
 	tools/oracle/target/release/oracle compare-writer 7500 1 sh tools/run.sh target/bin/writer_cases
 	tools/oracle/target/release/oracle compare-texts 300 1 sh tools/run.sh target/bin
 	tools/oracle/target/release/oracle compare-rises 12000 1 sh $(CURDIR)/tools/run.sh $(CURDIR)/target/bin/envelope_cases
+	tools/oracle/target/release/oracle compare-forecasts 15000 1 sh tools/run.sh target/bin/forecast_cases
 
 # This chip against the original, scene by scene (docs/PERFORMANCE.md). Needs cargo, and the original as for the lists.
 bench:

@@ -1,6 +1,7 @@
 #!/bin/sh
-# The programs `fields` and `write` in target/bin: a bundled score is what its text makes, and the same again from the
-# text of its fields; what is refused, and a line that is no field, is told alone, for what comes first in the text.
+# The programs `fields`, `write` and `forecast` in target/bin: a bundled score is what its text makes, and the same again
+# from the text of its fields; what is refused, and a line that is no field, is told alone, for what comes first in the
+# text; a forecast comes nearer with each clock, and gives way to a hold.
 set -eu
 cd "$(dirname "$0")/.."
 status=0
@@ -26,4 +27,13 @@ said 'a watch between' "$(printf 'write 0 0 1\nwatch 0\nread 0 0\nend 0\n' | run
 said 'a byte short' "$(printf 'read 5 27\nend 5\n' | run write 14)" 'refused 13 at 8'
 said 'a leading zero' "$(printf 'levels 0\nend 00\nend 0\nend 0\n' | run write)" 'line 2 is no field'
 said 'no number' "$(printf 'end 0\n' | run write all 2>&1)" 'usage: write [SIZE] < TEXT'
+# a fresh voice is held from clock 6043 on; on 6042 its last step is under way
+after() {
+  printf 'end %s\n' "$1" | run write | run forecast | tail -n 1
+}
+said 'a fresh chip' "$(after 0)" '2 6043'
+said 'six clocks before' "$(after 6037)" '2 6'
+said 'a clock before' "$(after 6042)" '2 unsettled'
+said 'on the clock' "$(after 6043)" '2 held'
+said 'no forecast' "$(run forecast < /dev/null)" 'refused 11 at 0'
 exit $status

@@ -1,5 +1,5 @@
-//! Finds the folder of the original and the archives of crates `bench`, `bench_pack` and `bench_score` (archive.sh),
-//! and hands them to the compiler.
+//! Finds the folder of the original and the archives of crates `bench`, `bench_pack`, `bench_score` and `bench_tail`
+//! (archive.sh), and hands them to the compiler.
 
 #[path = "../find.rs"]
 mod find;
@@ -8,7 +8,7 @@ use std::path::Path;
 
 const ARCHIVE_FOLDER: &str = "../../target/bench";
 
-const ARCHIVES: [&str; 3] = ["bench", "bench_pack", "bench_score"];
+const ARCHIVES: [&str; 4] = ["bench", "bench_pack", "bench_score", "bench_tail"];
 
 /// The original's files that `src/original.rs` includes.
 const FILES: [&str; 5] = [

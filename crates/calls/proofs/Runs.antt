@@ -12,10 +12,9 @@ use Rattle.oscillator.specs.Ways.{afresh, stepwise}
 use Rattle.sid.specs.Sid.{readAt, ticksBy, ticks, codeOf, Call, write, read, tick, clear, potX, potY, afterBy, after, ticksThen, clocksOf}
 use Rattle.sid.specs.declared.Mos6581.{Mos6581}
 use Rattle.sid.proofs.Joined.{after-join, after-ticks, count-ticks}
-use Rattle.calls.specs.Calls.{Which, of, Each, none, next, spares, floating, undriven, leavesOff, Leads, Fades, Floats, mostSince, Recent, Ahead}
-use Rattle.calls.proofs.Voices.{tick-cycle}
+use Rattle.calls.specs.Calls.{Which, of, Each, none, next, floating, undriven, leavesOff, Leads, Fades, Floats, mostSince, Recent, Ahead}
+use Rattle.calls.proofs.Voices.{ticks-envelope, tick-cycle}
 use Rattle.calls.proofs.Leaks.{calls-as-01}
-use Rattle.calls.proofs.Lifted.{sees-ticks}
 
 clocks-join : (calls more : List Call) → clocksOf (calls ++ more) ≡ clocksOf calls + clocksOf more
 unfolding clocksOf
@@ -76,8 +75,7 @@ module _ {allows : Call → Bool} where
 
 -- an envelope has made n clocks, of which `demand-3`, `rise`, `late-start` and `sustain-holds` speak
 pub run-envelope : (w : Which) (n : ℕ) (c : Mos6581) → of w (ticks n c) .envelope ≡ Envelope·clocks n (of w c .envelope)
-unfolding spares
-run-envelope w n c = sees-ticks w c (ticks n c, n, run-leads n c refl)
+run-envelope = ticks-envelope stepwise
 
 -- its cycle has counted them
 pub run-cycle : (n : ℕ) (c : Mos6581) (k : ℕ) → c .cycle ≡ k % 2 ^ 64 → ticks n c .cycle ≡ (k + n) % 2 ^ 64

@@ -2,20 +2,21 @@
 use mathlib.Core.Path.{_≡_, refl, ap, sym, subst, _∙_}
 use mathlib.Core.Bool.{Bool, true, false, cond, not, _&&_, _||_, false≢true, true≢false}
 use mathlib.Core.List.{List, [], _∷_}
-use Prim.Native.Nat.{ℕ, _+_, _*_, _/_, _%_, _<_}
+use Prim.Native.Nat.{ℕ, zero, suc, _+_, _*_, _/_, _%_, _<_}
 use native.Mathlib.Omega.{arith}
 use lib.Dec.{eqb, ltb}
 use borrow.Author.Tests.{eq-eqb, ne-eqb, ltb-true}
+use Rattle.laws.specs.Times.{times}
 use Rattle.laws.proofs.Bools.{implies}
 use Rattle.laws.proofs.Cond.{by-test, either}
 use Rattle.bus.specs.Bus.{driven}
 use Rattle.bus.specs.declared.InternalDataBus.{InternalDataBus}
-use Rattle.envelope.specs.Envelope.{clocked as Envelope·clocked, targetRefreshed, attackDecaySet, sustainReleaseSet, gateSet}
+use Rattle.envelope.specs.Envelope.{clocked as Envelope·clocked, clocks as Envelope·clocks, targetRefreshed, attackDecaySet, sustainReleaseSet, gateSet}
 use Rattle.envelope.specs.declared.Envelope.{Envelope}
 use Rattle.oscillator.specs.Oscillator.{writtenControl, tuned, resetPhase, testedTone, written as Oscillator·written}
 use Rattle.oscillator.specs.declared.Oscillator.{Oscillator}
 use Rattle.oscillator.specs.Ways.{Ways, stepwise}
-use Rattle.sid.specs.Sid.{freshVoice, fresh, register, withBus, resetVoice, reset, writtenOscillator, writtenEnvelope, writtenVoice, writtenTo, written, readDriven, readAt, withPotX, withPotY, clockedVoice, clockedVoiceBy, nextCycle, clockedBy, voiced, voicedBy, voiced0By, voiced1By, voiced2By, synchronisedIf, synchronised, tickedBy, Call, write, read, tick, clear, potX, potY, calledBy, called, afterBy, after}
+use Rattle.sid.specs.Sid.{freshVoice, fresh, register, withBus, resetVoice, reset, writtenOscillator, writtenEnvelope, writtenVoice, writtenTo, written, readDriven, readAt, withPotX, withPotY, clockedVoice, clockedVoiceBy, nextCycle, clockedBy, voiced, voicedBy, voiced0By, voiced1By, voiced2By, synchronisedIf, synchronised, tickedBy, ticksBy, Call, write, read, tick, clear, potX, potY, calledBy, called, afterBy, after}
 use Rattle.sid.specs.declared.Voice.{Voice}
 use Rattle.sid.specs.declared.Mos6581.{Mos6581}
 use Rattle.sid.specs.declared.Read.{Read}
@@ -47,6 +48,11 @@ pub tick-envelope : (ways : Ways) (w : Which) (c : Mos6581) → of w (tickedBy w
 tick-envelope ways w c =
     let t = tick-voice ways w c in
     ap (λ (v : Voice). v .envelope) (t .same) ∙ sync-envelope ways (t .taken) (of w c) (t .modulator) (nextCycle c)
+
+pub ticks-envelope : (ways : Ways) (w : Which) (n : ℕ) (c : Mos6581) → of w (ticksBy ways n c) .envelope ≡ Envelope·clocks n (of w c .envelope)
+unfolding times
+ticks-envelope ways w zero c = refl
+ticks-envelope ways w (suc n) c = tick-envelope ways w (ticksBy ways n c) ∙ ap Envelope·clocked (ticks-envelope ways w n c)
 
 -- its cycle is the one that all of it saw
 pub tick-cycle : (ways : Ways) (c : Mos6581) → tickedBy ways c .cycle ≡ nextCycle c

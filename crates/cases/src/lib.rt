@@ -1,6 +1,9 @@
-// What the programs that replay the oracle's lists share: a list is loaded, and what was compared is counted and told.
+// What the programs that replay the oracle's lists share: a list is loaded, answers are numbers, and what was compared is
+// counted and told.
+use refusals::Refused;
 ghost use mathlib.Core.Path.{_≡_};
 ghost use Rattle.io.specs.Counts.{Counts};
+ghost use Rattle.cases.specs.Answers.{mixed as Answers·mixed, refusal as Answers·refusal};
 ghost use Rattle.cases.specs.Tally.{none, counted};
 
 pub struct Tally {
@@ -45,6 +48,23 @@ impl Tally {
             first: self.first,
         }
     }
+}
+
+// The digest of one answer more.
+pub fn mixed(digest: u64, field: u64) -> u64
+    ensures { λ r. ⌜ r ≡ Answers·mixed digest field ⌝ }
+{
+    let sum = std::num::wrapping_add_u64(digest, field);
+    let spread = std::num::wrapping_add_u64(sum, sum << 10);
+    spread ^ (spread >> 6)
+}
+
+// A refusal as an answer: its number from bit 32 on, and its place.
+pub fn refusal(r: Refused) -> u64
+    ensures { λ n. ⌜ n ≡ Answers·refusal r ⌝ }
+{
+    let why = r.why;
+    ((refusals::number(why) as u64) << 32) | (r.place as u64)
 }
 
 // Reads a file of the program's folder, as far as there is room; gives the number of bytes, 0 where it cannot be

@@ -4,53 +4,12 @@
 use cases::Tally;
 use envelope::Envelope;
 use envelope::EnvelopeMotion;
-use envelope::GateHistory;
-
-fn motion(place: u8) -> EnvelopeMotion {
-    match place {
-        0 => EnvelopeMotion::Rising,
-        1 => EnvelopeMotion::FallingToSustain,
-        _ => EnvelopeMotion::FallingToZero,
-    }
-}
 
 fn place(motion: EnvelopeMotion) -> u8 {
     match motion {
         EnvelopeMotion::Rising => 0,
         EnvelopeMotion::FallingToSustain => 1,
         EnvelopeMotion::FallingToZero => 2,
-    }
-}
-
-// The last 18 bytes of a record of 21.
-fn state(record: &[u8]) -> Envelope {
-    let flags = words::u8_at(record, 8);
-    let motions = words::u8_at(record, 9);
-    let gate = GateHistory {
-        input: flags % 2 == 1,
-        stage_a: flags / 2 % 2 == 1,
-        stage_b: flags / 4 % 2 == 1,
-    };
-    Envelope {
-        volume: words::u8_at(record, 3),
-        rise_rate: words::u8_at(record, 4),
-        decay_rate: words::u8_at(record, 5),
-        hold_level: words::u8_at(record, 6),
-        fall_rate: words::u8_at(record, 7),
-        gate,
-        motion: motion(motions % 4),
-        requested_motion: motion(motions / 4),
-        motion_delay: words::u8_at(record, 10),
-        rate_phase: words::u16_at(record, 11),
-        rate_target_phase: words::u16_at(record, 13),
-        matched_rate: flags / 8 % 2 == 1,
-        amplitude_delay: words::u8_at(record, 15),
-        curve_delay: words::u8_at(record, 16),
-        curve_count: words::u8_at(record, 17),
-        curve_divisor: words::u8_at(record, 18),
-        queued_curve_divisor: words::u8_at(record, 19),
-        floor_hold: flags / 16 % 2 == 1,
-        readback: words::u8_at(record, 20),
     }
 }
 
@@ -113,7 +72,7 @@ fn replay_envelope(list: &[u8]) -> Tally {
     while 0 < rest {
         let next = at + 21;
         let record = &list[at..next];
-        let after = state(record);
+        let after = states::state(&list[at + 3..next]);
         e = made(record, e, after);
         tally = tally.count(same(e, after));
         at = next;
@@ -160,37 +119,37 @@ fn play_runs(from: Envelope, t: Tally, runs: &[u8]) -> Played {
     Played { e, tally }
 }
 
-fn started(head: &[u8]) -> Envelope {
-    let e = state(head);
-    if words::u8_at(head, 0) == 1 {
+fn started(late: u8, e: Envelope) -> Envelope {
+    if late == 1 {
         return e.set_gate(true);
     }
     e
 }
 
-fn replay_rise(t: Tally, head: &[u8], runs: &[u8], end: &[u8]) -> Tally {
-    let played = play_runs(started(head), t, runs);
+fn replay_rise(t: Tally, start: Envelope, runs: &[u8], end: Envelope) -> Tally {
+    let played = play_runs(start, t, runs);
     let e = played.e;
     let tally = played.tally;
-    tally.count(same(e, state(end)))
+    tally.count(same(e, end))
 }
 
-// A rise: its head, a record of 21 bytes (whether a gate-on is written first, the number of runs (2), the state), the
-// runs, and the state after them (18). That state and the 3 bytes before it are a record, too.
+// A rise: whether a gate-on is written first, the number of runs (2), the state (18), the runs, and the state after
+// them (18).
 fn replay_rises(list: &[u8]) -> Tally {
     let mut tally = Tally::new();
     let mut rest = list.len();
     let mut at: usize = 0;
     while 39 <= rest {
         let from = at + 21;
-        let head = &list[at..from];
-        let bytes = words::u16_at(head, 1) as usize * 3;
+        let bytes = words::u16_at(list, at + 1) as usize * 3;
         if rest - 39 < bytes {
             return tally;
         }
         let to = from + bytes;
         let next = to + 18;
-        tally = replay_rise(tally, head, &list[from..to], &list[to - 3..next]);
+        let start = started(words::u8_at(list, at), states::state(&list[at + 3..from]));
+        let end = states::state(&list[to..next]);
+        tally = replay_rise(tally, start, &list[from..to], end);
         at = next;
         rest = rest - 39 - bytes;
     }

@@ -11,17 +11,19 @@ use borrow.Author.Tests.{lt-ltb, le-ltb}
 use Rattle.listing.specs.Text.{Put, copied, textRoom}
 use Rattle.listing.proofs.Joins.{then, put-kept, put-copied}
 use Rattle.oscillator.specs.Ways.{Ways}
+use Rattle.panel.specs.declared.Panel.{Panel}
 use Rattle.refusals.specs.Refusals.{refused}
 use Rattle.refusals.specs.declared.Refusal.the-variants.{NoRoom}
+use Rattle.score.specs.Scores.{scoreOf}
 use Rattle.player.specs.declared.Listed.the-variants.{Written, Refused}
 use Rattle.player.specs.declared.Player.{Player}
 use Rattle.player.specs.declared.Rest.{Rest}
 use Rattle.player.specs.declared.Rest.the-variants.{Fields, Refusal, Nothing}
 use Rattle.player.specs.declared.Stepped.{Stepped}
 use Rattle.player.specs.Into.{intoAnswer, intoBuffer}
-use Rattle.player.specs.Listing.{listingBy}
+use Rattle.player.specs.Listing.{listingBy, panelOfBy}
 use Rattle.player.specs.Steps.{startOf, isNothing, Turn, turn, Does, lines, after, mostSteps, Made}
-use Rattle.player.proofs.Played.{turn-nothing, enough-steps}
+use Rattle.player.proofs.Played.{turn-nothing, steps-play, enough-steps}
 
 is-nothing : (r : Rest) → isNothing r ≡ true → r ≡ Nothing
 is-nothing (Fields at) e = let z : _≡_ {A = ℕ} 0 1 = cc in absurd (omega arith)
@@ -61,6 +63,33 @@ module _ (w : Ways) where
   unfolding after
   after-join zero k s p = rw zero-add
   after-join (suc n) k s p = rw (suc-add n k) (after-join n k s (turn w s p .next))
+
+  -- the panel stays once nothing is left to do
+  pub panel-over : (n : ℕ) (s : List ℕ) (p : Player) → isNothing (p .rest) ≡ true → after w n s p .panel ≡ p .panel
+  unfolding after
+  panel-over zero s p e = refl
+  panel-over (suc n) s p e = subst (λ (t : Turn). after w n s (t .next) .panel ≡ p .panel) (sym (turn-nothing w s p (is-nothing (p .rest) e))) (panel-over n s _ refl)
+
+  pub panel-none : (n : ℕ) (s : List ℕ) (p : Player) → n ≡ 0 → after w n s p .panel ≡ p .panel
+  unfolding after
+  panel-none zero s p h = refl
+  panel-none (suc n) s p h = absurd (omega arith)
+
+  -- from the start of a score it comes to what the score leaves
+  pub panel-first : (s : List ℕ) (p : Player) → p ≡ startOf s → after w mostSteps s p .panel ≡ panelOfBy w (scoreOf s)
+  panel-first s p e = ap (λ (q : Player). after w mostSteps s q .panel) e ∙ ap (λ (q : Player). q .panel) (steps-play w s mostSteps (omega arith) .leaves)
+
+  pub panel-more
+      : (n : ℕ) (s : List ℕ) (p : Player) {l m : List ℕ} {r : Stepped} {panel : Panel}
+      → 0 < n
+      → Does (turn w s p) l r m
+      → after w n s p .panel ≡ panel
+      → after w (n - 1) s (r .player) .panel ≡ panel
+  unfolding after
+  panel-more zero s p h d e = absurd (omega arith)
+  panel-more (suc n) s p {r = r} h d e =
+      let i : suc n - 1 ≡ n = omega arith in
+      ap (λ (k : ℕ). after w k s (r .player) .panel) i ∙ ap (λ (q : Player). after w n s q .panel) (d .player) ∙ e
 
 -- n steps, and one after them
 module _ (w : Ways) (n : ℕ) (s : List ℕ) (p : Player) where

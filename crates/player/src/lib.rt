@@ -18,7 +18,8 @@ ghost use lib.ListN.{length};
 ghost use Rattle.listing.specs.Text.{Put, textRoom, fadeRoom};
 ghost use Rattle.pack.specs.Pack.{over};
 ghost use Rattle.player.specs.Into.{intoAnswer, intoBuffer};
-ghost use Rattle.player.specs.Listing.{fadeOf, listingBy};
+ghost use Rattle.score.specs.Scores.{scoreOf};
+ghost use Rattle.player.specs.Listing.{fadeOf, listingBy, panelOfBy};
 ghost use Rattle.player.specs.Steps.{startOf, isNothing, onField, onStamp, onRefusal, turn, Does, DoesLine, Runs};
 
 // What a player has still to do: the fields from a place on, or to tell a refusal.
@@ -220,6 +221,25 @@ impl Player {
 
 // As many steps as any score takes (`mostSteps`).
 pub const STEPS: u32 = 9362;
+
+// The panel at a score's end, for a host that goes on from there; one that is refused runs no clock.
+pub fn panel_after(s: &[u8], pack: &[u16]) -> Panel
+    ensures { λ r. ⌜ r ≡ panelOfBy (over (now (pack .entry))) (scoreOf (now (s .entry))) ⌝ }
+{
+    let mut p = Player::start(s);
+    let mut line = [0u8; TEXT];
+    let mut left: u32 = STEPS;
+    while 0 < left {
+        let rest = p.rest;
+        if rest.is_nothing() {
+            return p.panel;
+        }
+        let next = p.step(s, pack, &mut line);
+        p = next.player;
+        left = left - 1;
+    }
+    p.panel
+}
 
 pub fn listing_len(s: &[u8], pack: &[u16]) -> usize
     ensures { λ r. ⌜ r ≡ length (listingBy (over (now (pack .entry))) (now (s .entry))) ⌝ }

@@ -4,13 +4,13 @@ use mathlib.Core.Path.{_≡_, refl, ap, sym, _∙_}
 use mathlib.Core.List.{[], _∷_}
 use lib.ListN.{getD}
 use Rattle.refusals.specs.declared.Refusal.{Refusal}
-use Rattle.refusals.specs.declared.Refusal.the-variants.{NoTable, TableLength, VoiceNumber, ScoreLength, HeaderCut, UnknownTag, FieldLength, StampTooLate, StampFalls, AfterEnd, NoEnd, ValueCut, NoRoom, StampUsed, PackLength}
+use Rattle.refusals.specs.declared.Refusal.the-variants.{NoTable, TableLength, VoiceNumber, ScoreLength, HeaderCut, UnknownTag, FieldLength, StampTooLate, StampFalls, AfterEnd, NoEnd, ValueCut, NoRoom, StampUsed, PackLength, Unsettled}
 use Rattle.refusals.specs.declared.Refused.{Refused}
 use Rattle.refusals.specs.Refusals.{numberOf, refused, Told, told}
 
 named : ℕ → Refusal
 named n =
-    getD (NoTable ∷ TableLength ∷ VoiceNumber ∷ ScoreLength ∷ HeaderCut ∷ UnknownTag ∷ FieldLength ∷ StampTooLate ∷ StampFalls ∷ AfterEnd ∷ NoEnd ∷ ValueCut ∷ NoRoom ∷ StampUsed ∷ []) (n - 1) PackLength
+    getD (NoTable ∷ TableLength ∷ VoiceNumber ∷ ScoreLength ∷ HeaderCut ∷ UnknownTag ∷ FieldLength ∷ StampTooLate ∷ StampFalls ∷ AfterEnd ∷ NoEnd ∷ ValueCut ∷ NoRoom ∷ StampUsed ∷ PackLength ∷ []) (n - 1) Unsettled
 
 named-number : (r : Refusal) → named (numberOf r) ≡ r
 unfolding named
@@ -29,6 +29,7 @@ named-number ValueCut = refl
 named-number NoRoom = refl
 named-number StampUsed = refl
 named-number PackLength = refl
+named-number Unsettled = refl
 
 pub number-tells : (a b : Refusal) → numberOf a ≡ numberOf b → a ≡ b
 number-tells a b e = sym (named-number a) ∙ ap named e ∙ named-number b

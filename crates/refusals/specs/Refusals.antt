@@ -3,7 +3,7 @@
 use Prim.Native.Nat.{ℕ}
 use Rattle.refusals.specs.declared.Refused.{Refused}
 use Rattle.refusals.specs.declared.Refusal.{Refusal}
-use Rattle.refusals.specs.declared.Refusal.the-variants.{NoTable, TableLength, VoiceNumber, ScoreLength, HeaderCut, UnknownTag, FieldLength, StampTooLate, StampFalls, AfterEnd, NoEnd, ValueCut, NoRoom, StampUsed, PackLength}
+use Rattle.refusals.specs.declared.Refusal.the-variants.{NoTable, TableLength, VoiceNumber, ScoreLength, HeaderCut, UnknownTag, FieldLength, StampTooLate, StampFalls, AfterEnd, NoEnd, ValueCut, NoRoom, StampUsed, PackLength, Unsettled}
 
 abbrev pub numberOf : Refusal → ℕ
 -- table for a selection above 15 or with under two bits; place 0
@@ -36,6 +36,8 @@ numberOf NoRoom = 13
 numberOf StampUsed = 14
 -- document 02: pack not 45,056 entries; place 0
 numberOf PackLength = 15
+-- document 02: forecast wanted of a voice not in settled release; place 0
+numberOf Unsettled = 19
 
 -- a refusal at its place
 abbrev pub refused : Refusal → ℕ → Refused

@@ -18,6 +18,7 @@ pub enum Refusal {
     NoRoom,
     StampUsed,
     PackLength,
+    Unsettled,
 }
 
 // What a refused call answers.
@@ -45,5 +46,6 @@ pub fn number(r: Refusal) -> u8
         Refusal::NoRoom => 13,
         Refusal::StampUsed => 14,
         Refusal::PackLength => 15,
+        Refusal::Unsettled => 19,
     }
 }

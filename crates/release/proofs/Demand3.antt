@@ -1,4 +1,5 @@
--- Every settled release meets DEMAND 3, in the plain numbers of its sentence, by whatever runs. Assumes nothing.
+-- Every settled release meets DEMAND 3, in the plain numbers of its sentence, by whatever runs, and is free from the
+-- clock of its last step on. Assumes nothing.
 use Prim.Native.Nat.{ℕ, suc, _+_, _-_, _%_, _<_, _≤_}
 use native.Mathlib.Omega.{arith}
 use native.Mathlib.Decide.{decLt}
@@ -7,7 +8,7 @@ use mathlib.Core.Bool.{true, false}
 use Rattle.laws.proofs.Times.{times-add}
 use Rattle.envelope.specs.declared.Envelope.{Envelope}
 use Rattle.envelope.specs.Envelope.{clocked, clocks}
-use Rattle.release.specs.Release.{SettledRelease, steps, levelAfter, landing, Needs, Demand3, At, ZeroFrom}
+use Rattle.release.specs.Release.{SettledRelease, steps, levelAfter, matches, landing, Needs, Demand3, lastStep, HeldFrom, At, ZeroFrom}
 use Rattle.release.specs.Settled.{Runs, From}
 use Rattle.release.specs.StepClocks.{wait, lag, stepClock}
 use Rattle.release.proofs.Stairs.{locate, level-before, level-on, level-still}
@@ -33,6 +34,19 @@ module _ (e : Envelope) (P : ℕ) (h : SettledRelease e P) where
       let i : n ≡ m + (n - m) = omega arith in
       subst (At 0 true) (times-add clocked (n - m) m e ∙ ap (λ (k : ℕ). clocks k e) (sym i)) (held-stays 0 (n - m) (clocks m e) (settled-release e P h .last))
 
+  -- before the last step it is at a level on the way, and not held
+  on-the-way : (m : ℕ) → m < stepClock e P (steps (e .volume)) → (k : ℕ) × (k < steps (e .volume)) × At (levelAfter (e .volume) k) false (clocks m e)
+  on-the-way m l =
+      let s = settled-release e P h in
+      let j = locate (stepClock e P) (s .start) (steps (e .volume)) m l in
+      (j .0, j .1, s .flat (j .0) (j .1) m (j .2) (j .3))
+
+  last-clock : lastStep e P ≡ stepClock e P (steps (e .volume))
+  unfolding lastStep
+  last-clock =
+      let all : suc (steps (e .volume) - 1) ≡ steps (e .volume) = omega (arith, steps-closed (e .volume) (h .settled .level)) in
+      clock-landing (steps (e .volume) - 1) _ _ (omega arith, ap (matches e) (sym all), refl) ∙ ap (stepClock e P) all
+
   module _ (s : Runs) (f : From e s) where
     end-seen : (r : s .Run) → stepClock e P (steps (e .volume)) ≤ s .made r → At 0 true (s .left r)
     end-seen r l = subst (At 0 true) (sym (f r)) (ended (s .made r) l)
@@ -56,13 +70,18 @@ module _ (e : Envelope) (P : ℕ) (h : SettledRelease e P) where
       ends = λ k S D r m q a. end-seen r (rw (← q, ← clock-landing k S D m) a);
     }
 
+    -- FREE from the clock of the last step on, and not before
+    pub last-step-frees : HeldFrom s (lastStep e P)
+    last-step-frees = record {
+      before = λ r l. ap (λ (x : Envelope). x .«floor_hold») (f r) ∙ on-the-way (s .made r) (rw (← last-clock) l) .2 .1;
+      from = λ r l. end-seen r (rw (← last-clock) l);
+    }
+
   -- from a level that is not 0, it comes to zero with the last step
   pub zero-from : (e .volume ≡ 0 → ⊥) → ZeroFrom e (stepClock e P (steps (e .volume)))
   zero-from nonzero = (go, ended)
     where
       go : (m : ℕ) → m < stepClock e P (steps (e .volume)) → (clocks m e .volume ≡ 0 → ⊥) × (clocks m e .«floor_hold» ≡ false)
       go m l =
-          let s = settled-release e P h in
-          let j = locate (stepClock e P) (s .start) (steps (e .volume)) m l in
-          let r = s .flat (j .0) (j .1) m (j .2) (j .3) in
-          (λ z. omega (arith, z, level (j .0) (j .1) (clocks m e) r, steps-closed (e .volume) (h .settled .level), j .1, h .settled .level, nonzero), r .1)
+          let j = on-the-way m l in
+          (λ z. omega (arith, z, level (j .0) (j .1) (clocks m e) (j .2), steps-closed (e .volume) (h .settled .level), j .1, h .settled .level, nonzero), j .2 .1)

@@ -78,6 +78,15 @@ pub record Demand3 (s : Runs) (e : Envelope) (p P : ℕ) : Type 0 where
       : (k S D : ℕ) (r : s .Run) → Needs e k S D → suc k ≡ steps (e .volume) → landing p P S D ≤ s .made r
       → (s .left r .volume ≡ 0) × (s .left r .«floor_hold» ≡ true)
 
+-- the clock of its last step, after which a voice is free
+unfoldable pub lastStep : Envelope → ℕ → ℕ
+lastStep e P = landing (e .«rate_phase») P (matches e (steps (e .volume))) (divisorAfter (e .volume) (e .«curve_divisor») (steps (e .volume) - 1))
+
+-- what runs show of a voice that is free from clock n on: held at zero then, and not before
+pub record HeldFrom (s : Runs) (n : ℕ) : Type 0 where
+  pub before : (r : s .Run) → s .made r < n → s .left r .«floor_hold» ≡ false
+  pub from : (r : s .Run) → n ≤ s .made r → (s .left r .volume ≡ 0) × (s .left r .«floor_hold» ≡ true)
+
 -- 'Both sides of each edge': 'first match on clock n'
 abbrev pub FirstMatch : Envelope → ℕ → Type 0
 FirstMatch e n = (clocks n e .«matched_rate» ≡ true) × ((m : ℕ) → m < n → clocks m e .«matched_rate» ≡ false)

@@ -2,7 +2,6 @@
 // clock by a digest.
 // The list is made by tools/oracle, which says how it is laid out: cargo run --release -- list sid
 use cases::Tally;
-use refusals::Refused;
 use sid::Answer;
 use sid::Mos6581;
 use tables::Filled;
@@ -22,18 +21,12 @@ struct OneClock {
     lost: u8,
 }
 
-fn mixed(digest: u64, field: u64) -> u64 {
-    let sum = std::num::wrapping_add_u64(digest, field);
-    let spread = std::num::wrapping_add_u64(sum, sum << 10);
-    spread ^ (spread >> 6)
-}
-
 fn with_byte(digest: u64, byte: u8) -> u64 {
-    mixed(digest, byte as u64)
+    cases::mixed(digest, byte as u64)
 }
 
 fn with_entry(digest: u64, entry: u16) -> u64 {
-    mixed(digest, entry as u64)
+    cases::mixed(digest, entry as u64)
 }
 
 fn codes(a: u16, b: u16, c: u16) -> u64 {
@@ -42,11 +35,6 @@ fn codes(a: u16, b: u16, c: u16) -> u64 {
 
 fn levels(a: u8, b: u8, c: u8) -> u64 {
     ((a as u64) << 36) | ((b as u64) << 44) | ((c as u64) << 52)
-}
-
-fn refusal(r: Refused) -> u64 {
-    let why = r.why;
-    ((refusals::number(why) as u64) << 32) | (r.place as u64)
 }
 
 fn outputs(t: Ticked) -> OneClock {
@@ -75,7 +63,7 @@ fn clocked(engine: u8, chip: Mos6581, pack: &[u16]) -> OneClock {
             let chip = gave.chip;
             OneClock {
                 chip,
-                answer: refusal(why),
+                answer: cases::refusal(why),
                 lost: gave.lost,
             }
         }
@@ -91,7 +79,7 @@ fn ticked(engine: u8, before: Mos6581, clocks: u32, pack: &[u16]) -> Answered {
         let gave = clocked(engine, chip, pack);
         let next = gave.chip;
         chip = next;
-        answer = with_byte(mixed(answer, gave.answer), gave.lost);
+        answer = with_byte(cases::mixed(answer, gave.answer), gave.lost);
         left = left - 1;
     }
     Answered { chip, answer }
@@ -108,7 +96,7 @@ fn watched(engine: u8, before: Mos6581, address: u16, clocks: u32, pack: &[u16])
         let r = next.read(address);
         let last = r.chip;
         chip = last;
-        let told = with_byte(mixed(answer, gave.answer), gave.lost);
+        let told = with_byte(cases::mixed(answer, gave.answer), gave.lost);
         answer = with_byte(told, r.byte);
         left = left - 1;
     }
@@ -120,7 +108,7 @@ fn told(answer: Answer) -> u64 {
         Answer::Code { code } => code as u64,
         Answer::Level { level } => level as u64,
         Answer::Held { held } => held as u64,
-        Answer::Refused(r) => refusal(r),
+        Answer::Refused(r) => cases::refusal(r),
     }
 }
 
@@ -148,7 +136,7 @@ fn run(engine: u8, chip: Mos6581, clocks: u32, pack: &[u16]) -> Answered {
         Filled::Done => shown(after),
         Filled::Refused(why) => Answered {
             chip: after,
-            answer: refusal(why),
+            answer: cases::refusal(why),
         },
     }
 }
@@ -156,7 +144,7 @@ fn run(engine: u8, chip: Mos6581, clocks: u32, pack: &[u16]) -> Answered {
 fn fill(pack: &mut [u16]) -> u64 {
     match pack::fill(pack) {
         Filled::Done => 0,
-        Filled::Refused(r) => refusal(r),
+        Filled::Refused(r) => cases::refusal(r),
     }
 }
 
@@ -175,7 +163,7 @@ fn scatter(pack: &mut [u16]) {
     let mut left = pack.len();
     while 0 < left {
         left = left - 1;
-        spread = mixed(spread, left as u64);
+        spread = cases::mixed(spread, left as u64);
         pack[left] = (spread % 65536) as u16;
     }
 }
@@ -260,7 +248,7 @@ fn lengths(chip: Mos6581, longest: u16) -> u64 {
         tally = tally.count(refused(chip, &mut entries[..left]));
     }
     let found = ((tally.differ as u64) << 32) | (tally.first as u64);
-    mixed(found, digest(&entries))
+    cases::mixed(found, digest(&entries))
 }
 
 fn silent(chip: Mos6581) -> Answered {

@@ -4,11 +4,11 @@
 
 mod original;
 
-use original::{GeneratedWaveShapes, Voices, DATA_BUS_HOLD_CYCLES};
+use original::{fall, GeneratedWaveShapes, Voices, DATA_BUS_HOLD_CYCLES};
 use std::hint::black_box;
 use std::process::ExitCode;
 
-// Crates `bench`, `bench_pack` and `bench_score`; and of C, the processor time of this process in microseconds.
+// Crates `bench`, `bench_pack`, `bench_score` and `bench_tail`; and of C, the processor time of this process in microseconds.
 extern "C" {
     fn bench_idle(clocks: u64) -> u64;
     fn bench_run(control: u8, clocks: u64) -> u64;
@@ -21,6 +21,8 @@ extern "C" {
     fn bench_both_ticks(control: u8, clocks: u64) -> u64;
     fn bench_pack_writes(seed: u16, writes: u64, apart: u64, pack: *const u16, length: usize) -> u64;
     fn bench_score(score: *const u8, bytes: usize, pack: *const u16, length: usize) -> u64;
+    fn bench_forecasts(calls: u64) -> u64;
+    fn bench_to_held(control: u8, clocks: u32) -> u64;
     fn clock() -> i64;
 }
 
@@ -265,6 +267,38 @@ fn watching(rounds: u64, pack: &[u16]) -> ([f64; 2], bool) {
     (least.map(|time| time as f64 * 1000.0 / f64::from(DRIVES * APART)), due)
 }
 
+/// Forecasts of one level after another: the least ns of one, and whether they are the clocks that the original's
+/// envelope takes.
+fn forecasting(rounds: u64) -> (f64, bool) {
+    const TIMES: u64 = 10_000;
+    let due = TIMES * (0..=255).map(fall).sum::<u64>();
+    let calls = TIMES * 256;
+    let mut least = i64::MAX;
+    let mut right = true;
+    for _ in 0..rounds {
+        let (sum, time) = timed(|| unsafe { bench_forecasts(calls) });
+        least = time.min(least);
+        right &= sum == due;
+    }
+    (least as f64 * 1000.0 / calls as f64, right)
+}
+
+/// The same scene run, and run until a voice is held that never is: the least ns a clock of each, and whether the same
+/// is heard.
+fn waiting(rounds: u64, clocks: u32) -> ([f64; 2], bool) {
+    const PULSES: u8 = 0x41;
+    let mut least = [i64::MAX; 2];
+    let mut same = true;
+    for _ in 0..rounds {
+        let (run, time) = timed(|| unsafe { bench_run(PULSES, clocks.into()) });
+        least[0] = time.min(least[0]);
+        let (waited, time) = timed(|| unsafe { bench_to_held(PULSES, clocks) });
+        least[1] = time.min(least[1]);
+        same &= run == waited;
+    }
+    (least.map(|time| time as f64 * 1000.0 / f64::from(clocks)), same)
+}
+
 fn main() -> ExitCode {
     let mut words = std::env::args().skip(1).map(|word| word.parse::<u64>());
     let rounds = words.next().map_or(9, |word| word.expect("rounds: a number"));
@@ -274,6 +308,7 @@ fn main() -> ExitCode {
     let mut pack = vec![0; PACK];
     let [theirs, here] = filling(rounds, &mut pack);
     let mut differ = false;
+    let mut tick = 0.0;
     for (name, scene_of, aim) in SCENES {
         let mut least = [i64::MAX; 2];
         for _ in 0..rounds {
@@ -284,6 +319,9 @@ fn main() -> ExitCode {
             differ |= theirs != here;
         }
         let [theirs, here] = least.map(|time| time as f64 * 1000.0 / clocks as f64);
+        if let Idle = scene_of {
+            tick = theirs;
+        }
         let aim = aim.map_or(String::new(), |aim| format!("{aim:.2}"));
         println!("{name:<32}{theirs:>10.1}{here:>8.1}{:>8.2}{aim:>8}", here / theirs);
     }
@@ -291,10 +329,16 @@ fn main() -> ExitCode {
     let ([unwatched, watched], due) = watching(rounds, &pack);
     println!("{:<32}{:>10}{:>8}{:>8}{:>8}", "", "unwatched", "watched", "ratio", "aim");
     println!("{:<32}{unwatched:>10.1}{watched:>8.1}{:>8.2}{:>8.2}", "score of 100,000,000 clocks", watched / unwatched, 1.05);
-    if differ || !due {
-        println!("what is heard or listed DIFFERS");
+    let (forecast, right) = forecasting(rounds);
+    println!("{:<32}{:>10}{:>8}{:>8}{:>8}", "", "a tick", "here", "ratio", "aim");
+    println!("{:<32}{tick:>10.1}{forecast:>8.1}{:>8.2}{:>8.2}", "forecast", forecast / tick, 1.0);
+    let ([run, waited], same) = waiting(rounds, clocks.try_into().expect("clocks: 32 bits"));
+    println!("{:<32}{:>10}{:>8}{:>8}{:>8}", "", "run", "to held", "ratio", "aim");
+    println!("{:<32}{run:>10.1}{waited:>8.1}{:>8.2}{:>8.2}", "run, three pulses", waited / run, 1.1);
+    if differ || !due || !right || !same {
+        println!("what is heard, listed or forecast DIFFERS");
         return ExitCode::FAILURE;
     }
-    println!("what is heard is equal in every scene, and what is listed is due");
+    println!("what is heard is equal in every scene, and what is listed and forecast is due");
     ExitCode::SUCCESS
 }

@@ -124,3 +124,17 @@ impl Voices {
         std::array::from_fn(|i| self.envelopes[i].volume)
     }
 }
+
+/// The clocks that a fresh envelope takes from a level to a held zero; from zero, which is not held, by way of 0xff.
+pub fn fall(level: u8) -> u64 {
+    let mut envelope = Envelope::new();
+    envelope.volume = level;
+    let mut clocks = 0;
+    let mut falls = level != 0;
+    while !falls || envelope.volume != 0 {
+        envelope.clock();
+        clocks += 1;
+        falls |= envelope.volume != 0;
+    }
+    clocks
+}

@@ -37,7 +37,7 @@ use Call::{
 
 pub const RECORD_BYTES: usize = 16;
 
-const PACK_LENGTH: usize = 45_056;
+pub const PACK_LENGTH: usize = 45_056;
 /// Entries of the pack that are the block of selection 9.
 const BLOCK_OF_9: std::ops::Range<usize> = 16_384..20_480;
 /// Entries of which parts of every length are lent.
@@ -352,7 +352,7 @@ fn outputs(chip: &Mos6581) -> u64 {
 }
 
 /// Two fields never give one digest the same next, nor does one field two digests.
-fn mixed(digest: u64, field: u64) -> u64 {
+pub fn mixed(digest: u64, field: u64) -> u64 {
     let sum = digest.wrapping_add(field);
     let spread = sum.wrapping_add(sum << 10);
     spread ^ (spread >> 6)

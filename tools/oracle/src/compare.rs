@@ -17,8 +17,10 @@ use crate::calls::{Recorder, Rule, RECORD_BYTES};
 use crate::compose;
 use crate::lines;
 use crate::lists::{self, Rise, WriterCalls};
+use crate::planner;
 use crate::score;
 use crate::sid::sid::Mos6581;
+use crate::tails;
 use crate::text::{self, Fault};
 
 /// A run of `sid_cases` has the calls of so many seeds, so that its pack is seldom filled.
@@ -30,6 +32,8 @@ const LISTS_AT_ONCE: u64 = 500;
 /// A run of `envelope_cases` has so many rises; it takes the bytes below at the most.
 const RISES_AT_ONCE: u64 = 75;
 const MOST_BYTES_OF_RISES: usize = 65_536;
+/// A run of `forecast_cases` has the calls of so many seeds, so that its pack is seldom filled.
+const TAILS_AT_ONCE: u64 = 1_000;
 
 /// Feeds `sid_cases` the aimed calls of so many seeds, each of so many ticks or more.
 pub fn calls(program: &[&OsStr], seeds: u64, ticks: u64, first: u64) -> io::Result<bool> {
@@ -198,15 +202,18 @@ pub fn writer(program: &[&OsStr], count: u64, first: u64) -> io::Result<bool> {
     Ok(true)
 }
 
-/// Feeds `fields` the scores of so many seeds, and `write` what it must print and texts of its own.
-/// The programs are in the folder.
+/// Feeds `fields` and `forecast` the scores of so many seeds, and `write` what `fields` must print
+/// and texts of its own. The programs are in the folder.
 pub fn texts(runner: &[&OsStr], folder: &OsStr, count: u64, first: u64) -> io::Result<bool> {
     let fields = Path::new(folder).join("fields");
     let fields = [runner, &[fields.as_os_str()]].concat();
     let write = Path::new(folder).join("write");
     let write = [runner, &[write.as_os_str()]].concat();
+    let forecast = Path::new(folder).join("forecast");
+    let forecast = [runner, &[forecast.as_os_str()]].concat();
     let mut chip = Mos6581::new();
     let mut accepted = 0;
+    let mut voices = BTreeMap::new();
     let mut no_field = 0;
     let mut refused = BTreeMap::new();
     for seed in first..first + count {
@@ -216,8 +223,20 @@ pub fn texts(runner: &[&OsStr], folder: &OsStr, count: u64, first: u64) -> io::R
             println!("seed {seed}: the fields differ");
             return Ok(false);
         }
+        let forecasts = text::forecasts(&score, &mut chip);
+        if answer(&forecast, &score)? != forecasts.as_bytes() {
+            println!("seed {seed}: the forecasts differ");
+            return Ok(false);
+        }
         if score::check(&score).is_ok() {
             accepted += 1;
+            for line in forecasts.lines() {
+                let kind = match line.split_once(' ') {
+                    Some((_, kind @ ("held" | "unsettled"))) => kind,
+                    _ => "forecast",
+                };
+                *voices.entry(kind.to_string()).or_insert(0) += 1;
+            }
             if answer(&write, &text)? != score {
                 println!("seed {seed}: the score written again differs");
                 return Ok(false);
@@ -238,6 +257,9 @@ pub fn texts(runner: &[&OsStr], folder: &OsStr, count: u64, first: u64) -> io::R
         }
     }
     println!("{count} scores as text, {accepted} of them written again: no difference");
+    for (kind, voices) in voices {
+        println!("voices {kind} at the end: {voices}");
+    }
     println!("{count} texts, {no_field} of them told a line that is no field: no difference");
     for (number, texts) in refused {
         println!("refused {number}: {texts}");
@@ -292,6 +314,60 @@ fn difference_of_rises(
     let none = "envelope: 0 answers compared, 0 differ";
     let due = format!("{none}\nrises: {answers} answers compared, 0 differ\n");
     Ok(unless_due(&answer_in(folder, program, &[])?, &due))
+}
+
+/// Feeds `forecast_cases` the calls of so many seeds.
+pub fn forecasts(program: &[&OsStr], seeds: u64, first: u64) -> io::Result<bool> {
+    let mut recorder = planner::Recorder::new();
+    let mut calls = 0;
+    for batch in batches(first..first + seeds, TAILS_AT_ONCE) {
+        recorder.records.clear();
+        for seed in batch.clone() {
+            tails::seeded_calls(&mut recorder, seed);
+        }
+        if let Some(said) = difference_of_tails(program, &recorder.records)? {
+            println!("seeds {} to {}: {said}", batch.start, batch.end - 1);
+            find_difference_of_tails(program, &mut recorder, batch)?;
+            return Ok(false);
+        }
+        calls += recorder.records.len() / planner::RECORD_BYTES;
+    }
+    let compared = recorder.compared;
+    println!("{seeds} seeds, {calls} calls: no difference");
+    println!("{} settled releases forecast", compared.forecasts);
+    println!(
+        "{} runs to a hold, {} of them stopped, {} clocks",
+        compared.runs, compared.stopped, compared.clocks
+    );
+    for (number, calls) in compared.refused {
+        println!("refused {number}: {calls}");
+    }
+    Ok(true)
+}
+
+/// Tells the first seed whose calls differ.
+fn find_difference_of_tails(
+    program: &[&OsStr],
+    recorder: &mut planner::Recorder,
+    batch: Range<u64>,
+) -> io::Result<()> {
+    for seed in batch {
+        recorder.records.clear();
+        tails::seeded_calls(recorder, seed);
+        if let Some(said) = difference_of_tails(program, &recorder.records)? {
+            println!("seed {seed}: {said}");
+            return Ok(());
+        }
+    }
+    println!("none of them differs by itself");
+    Ok(())
+}
+
+/// What `forecast_cases` says of calls, unless it finds all alike.
+fn difference_of_tails(program: &[&OsStr], records: &[u8]) -> io::Result<Option<String>> {
+    let count = records.len() / planner::RECORD_BYTES;
+    let due = format!("forecasts: {count} answers compared, 0 differ\n");
+    Ok(unless_due(&answer(program, records)?, &due))
 }
 
 /// A program started there finds the files that are written there.

@@ -2,6 +2,7 @@
 
 mod bus;
 mod envelope;
+mod forecasts;
 mod oscillator;
 mod packs;
 mod replay;
@@ -14,15 +15,18 @@ mod writer;
 
 use std::ffi::OsStr;
 
+pub use envelope::{any_state, record_state, FALLING_TO_ZERO};
+pub use forecasts::{BREAKS, ENGINES};
 pub use replay::{listing_in_one, scores_in_one};
 pub use rises::{target, Rates, Rise, Start, PHASES};
 pub use writer::{Calls as WriterCalls, MOST_ROOM};
 
 type List = fn() -> Vec<u8>;
 
-const LISTS: [(&str, List); 12] = [
+const LISTS: [(&str, List); 13] = [
     ("bus", bus::list),
     ("envelope", envelope::list),
+    ("forecasts", forecasts::list),
     ("oscillator_calls", oscillator::calls),
     ("oscillator_states", oscillator::states),
     ("replay_listings", replay::listings),

@@ -9,11 +9,13 @@ mod compare;
 mod compose;
 mod lines;
 mod lists;
+mod planner;
 mod random;
 mod score;
 // The lists call only parts of the original.
 #[allow(dead_code)]
 mod sid;
+mod tails;
 mod text;
 mod writer;
 
@@ -36,6 +38,7 @@ fn main() -> ExitCode {
         eprintln!("       oracle compare-writer LISTS FIRST_SEED WRITER_CASES...");
         eprintln!("       oracle compare-texts TEXTS FIRST_SEED RUNNER... FOLDER");
         eprintln!("       oracle compare-rises RISES FIRST_SEED ENVELOPE_CASES...");
+        eprintln!("       oracle compare-forecasts SEEDS FIRST_SEED FORECAST_CASES...");
         eprintln!("       oracle calls SEED TICKS");
         eprintln!("       oracle score SEED");
         eprintln!("       oracle listing < SCORE");
@@ -43,6 +46,7 @@ fn main() -> ExitCode {
         eprintln!("       oracle appended SEED");
         eprintln!("       oracle text SEED");
         eprintln!("       oracle rise SEED");
+        eprintln!("       oracle tails SEED");
         return ExitCode::from(2);
     };
     match done {
@@ -78,6 +82,9 @@ fn obey(arguments: &[&OsStr]) -> Option<io::Result<bool>> {
         ("compare-rises", [count, first, program @ ..]) if !program.is_empty() => {
             compare::rises(program, number(count)?, number(first)?)
         }
+        ("compare-forecasts", [seeds, first, program @ ..]) if !program.is_empty() => {
+            compare::forecasts(program, number(seeds)?, number(first)?)
+        }
         ("calls", &[seed, ticks]) => {
             let mut recorder = Recorder::new();
             aim::seeded_calls(&mut recorder, number(seed)?, number(ticks)?);
@@ -93,6 +100,11 @@ fn obey(arguments: &[&OsStr]) -> Option<io::Result<bool>> {
         }
         ("text", &[seed]) => write(&lines::seeded(number(seed)?).0),
         ("rise", &[seed]) => write(&attack::seeded(number(seed)?).record()),
+        ("tails", &[seed]) => {
+            let mut recorder = planner::Recorder::new();
+            tails::seeded_calls(&mut recorder, number(seed)?);
+            write(&recorder.records)
+        }
         _ => return None,
     })
 }

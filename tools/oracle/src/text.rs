@@ -1,7 +1,10 @@
 //! Scores as text, as `fields` prints it and `write` takes it: a field a line, its name, stamp,
-//! address and value, one space between, decimal without sign or leading zero.
+//! address and value, one space between, decimal without sign or leading zero. Also what `forecast`
+//! prints.
 
+use crate::planner;
 use crate::score::{self, end, levels, read, watch, write, Event, Field, MOST_BYTES};
+use crate::sid::sid::Mos6581;
 use crate::writer::Writer;
 
 /// Why a text gives no score.
@@ -20,6 +23,25 @@ pub fn of_score(score: &[u8]) -> String {
         Ok(fields) => fields.iter().map(|field| line(field) + "\n").collect(),
         Err(refused) => refused.line(),
     }
+}
+
+/// What `forecast` must print for a score. The chip is used, as by `score::listing`.
+pub fn forecasts(score: &[u8], chip: &mut Mos6581) -> String {
+    let listing = score::listing(score, chip);
+    if score::check(score).is_err() {
+        return listing;
+    }
+    let mut lines = String::new();
+    for (voice, envelope) in chip.envelopes.iter().enumerate() {
+        let state = envelope.state();
+        let told = match (state.floor_hold, planner::is_settled(&state)) {
+            (true, _) => "held".to_string(),
+            (false, true) => planner::held_on(state).to_string(),
+            (false, false) => "unsettled".to_string(),
+        };
+        lines += &format!("{voice} {told}\n");
+    }
+    lines
 }
 
 /// Without its line feed.

@@ -19,7 +19,7 @@ const RANDOM_CALLS: usize = 150;
 
 pub(super) const RISING: u8 = 0;
 pub(super) const FALLING_TO_SUSTAIN: u8 = 1;
-pub(super) const FALLING_TO_ZERO: u8 = 2;
+pub const FALLING_TO_ZERO: u8 = 2;
 
 pub fn list() -> Vec<u8> {
     let mut recorder = Recorder::new();
@@ -119,7 +119,7 @@ impl Recorder {
 }
 
 /// The last 18 bytes of a record.
-pub(super) fn record_state(records: &mut Vec<u8>, state: &State) {
+pub fn record_state(records: &mut Vec<u8>, state: &State) {
     let flags = [
         state.input,
         state.stage_a,
@@ -178,7 +178,7 @@ fn call_on_random_states(recorder: &mut Recorder, random: &mut Random) {
 }
 
 /// Near the edges more often than not, possible or not.
-fn any_state(random: &mut Random) -> State {
+pub fn any_state(random: &mut Random) -> State {
     let rate_target_phase = match random.below(4) {
         0 => 32_766 + random.below(2) as u16,
         1 => random.word() as u16,

@@ -55,18 +55,30 @@ pub fn list() -> Vec<u8> {
 
 /// A voice's frequency, width, attack and decay, sustain and release, and control, in this order.
 pub fn voice(number: usize, frequency: u16, width: u16, rates: u16, control: u8) -> [Call; 7] {
+    let writes = registers(number, frequency, width, rates, control);
+    writes.map(|(address, value)| Write(address, value))
+}
+
+/// The addresses and values of these writes.
+pub fn registers(
+    number: usize,
+    frequency: u16,
+    width: u16,
+    rates: u16,
+    control: u8,
+) -> [(u16, u8); 7] {
     let base = 7 * number as u16;
     let [frequency_low, frequency_high] = frequency.to_le_bytes();
     let [width_low, width_high] = width.to_le_bytes();
     let [sustain_release, attack_decay] = rates.to_le_bytes();
     [
-        Write(base, frequency_low),
-        Write(base + 1, frequency_high),
-        Write(base + 2, width_low),
-        Write(base + 3, width_high),
-        Write(base + 5, attack_decay),
-        Write(base + 6, sustain_release),
-        Write(base + 4, control),
+        (base, frequency_low),
+        (base + 1, frequency_high),
+        (base + 2, width_low),
+        (base + 3, width_high),
+        (base + 5, attack_decay),
+        (base + 6, sustain_release),
+        (base + 4, control),
     ]
 }
 
