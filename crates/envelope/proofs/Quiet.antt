@@ -4,14 +4,11 @@ use mathlib.Core.Path.{_≡_, refl, ap₂}
 use mathlib.Core.Bool.{Bool, true, false, cond, not, _&&_, Bool·beq, false≢true}
 use borrow.Author.Tests.{eqb-true, eq-eqb, not-true}
 use lib.Dec.{eqb}
+use Rattle.laws.proofs.Bools.{and-both}
 use Rattle.envelope.specs.Sets.{setGate, setMatchedRate, setRatePhase}
 use Rattle.envelope.specs.declared.Envelope.{Envelope}
 use Rattle.envelope.specs.declared.GateEdge.the-variants.{Still}
 use Rattle.envelope.specs.Envelope.{levelRead, divisorCommitted, edgeOf, requestedOn, gateSampled, motionCommitted, amplitudeClocked, curveClocked, matchConsumed, phaseUp, rateClocked, clocked, quiescent}
-
-both : (a b : Bool) → (a && b) ≡ true → (a ≡ true) × (b ≡ true)
-both true b h = (refl, h)
-both false b h = absurd (false≢true h)
 
 last : (a b : Bool) → (a && b) ≡ true → (c : Bool) → (a && c) ≡ c
 last true b h c = refl
@@ -67,12 +64,12 @@ pub record Quiet (e : Envelope) : Type 0 where
 pub quiet : (e : Envelope) → quiescent e ≡ true → Quiet e
 unfolding quiescent
 quiet e h =
-    let h6 = both _ _ h in
-    let h5 = both _ _ (h6 .0) in
-    let h4 = both _ _ (h5 .0) in
-    let h3 = both _ _ (h4 .0) in
-    let h2 = both _ _ (h3 .0) in
-    let h1 = both _ _ (h2 .0) in
+    let h6 = and-both _ _ h in
+    let h5 = and-both _ _ (h6 .0) in
+    let h4 = and-both _ _ (h5 .0) in
+    let h3 = and-both _ _ (h4 .0) in
+    let h2 = and-both _ _ (h3 .0) in
+    let h1 = and-both _ _ (h2 .0) in
     record {
       unqueued = eqb-true _ _ (h1 .0);
       input = same _ _ (h1 .1);

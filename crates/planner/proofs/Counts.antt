@@ -9,7 +9,7 @@ use mathlib.Core.Bool.{Bool, true, false, cond, _&&_, false≢true}
 use borrow.Author.Tests.{eq-eqb, lt-ltb, eqb-true, ltb-true, leb-true, not-true}
 use lib.Dec.{ltb, leb}
 use Rattle.laws.specs.Times.{times}
-use Rattle.laws.proofs.Bools.{and-left, and-right}
+use Rattle.laws.proofs.Bools.{and-right, and-both}
 use Rattle.laws.proofs.Times.{times-first}
 use Rattle.envelope.specs.declared.Envelope.{Envelope}
 use Rattle.envelope.specs.declared.EnvelopeMotion.{EnvelopeMotion}
@@ -32,21 +32,18 @@ falling Rising h = absurd (false≢true h)
 falling FallingToSustain h = absurd (false≢true h)
 falling FallingToZero h = refl
 
-both : (a b : Bool) → (a && b) ≡ true → (a ≡ true) × (b ≡ true)
-both a b h = (and-left a b h, and-right a b h)
-
 module _ (e : Envelope) where
   pub settled-when : isSettled e ≡ true → SettledRelease e (releasePeriod e)
   unfolding isSettled
   settled-when h =
-      let h8 = both _ _ h in
-      let h7 = both _ _ (h8 .0) in
-      let h6 = both _ _ (h7 .0) in
-      let h5 = both _ _ (h6 .0) in
-      let h4 = both _ _ (h5 .0) in
-      let h3 = both _ _ (h4 .0) in
-      let h2 = both _ _ (h3 .0) in
-      let h1 = both _ _ (h2 .0) in
+      let h8 = and-both _ _ h in
+      let h7 = and-both _ _ (h8 .0) in
+      let h6 = and-both _ _ (h7 .0) in
+      let h5 = and-both _ _ (h6 .0) in
+      let h4 = and-both _ _ (h5 .0) in
+      let h3 = and-both _ _ (h4 .0) in
+      let h2 = and-both _ _ (h3 .0) in
+      let h1 = and-both _ _ (h2 .0) in
       let q = quiet e (h1 .0) in
       let low : e .gate .input ≡ false = not-true _ (h1 .1) in
       let a = sym (q .input) ∙ low in
@@ -144,9 +141,9 @@ module _ (e : Envelope) where
   pub waits : isWaiting e ≡ true → Leads e (record { e = matching e; clocks = (e .«rate_target_phase» + 32767 - e .«rate_phase») % 32767 + 1 })
   unfolding isWaiting wait
   waits h =
-      let h3 = both _ _ h in
-      let h2 = both _ _ (h3 .0) in
-      let h1 = both _ _ (h2 .0) in
+      let h3 = and-both _ _ h in
+      let h2 = and-both _ _ (h3 .0) in
+      let h1 = and-both _ _ (h2 .0) in
       let target = e .«rate_target_phase» in
       let least = leb-true 8 target (h1 .1) in
       let most = ltb-true target 32767 (h2 .1) in

@@ -1,7 +1,7 @@
 -- An envelope's state in the oracle's lists: 18 bytes, little endian; no rule of document 01.
 use Prim.Native.Nat.{ℕ, _/_, _%_}
 use mathlib.Core.List.{List}
-use mathlib.Core.Bool.{Bool, cond}
+use mathlib.Core.Bool.{cond}
 use lib.Dec.{eqb}
 use Rattle.words.specs.Words.{numberAt}
 use Rattle.envelope.specs.declared.Envelope.{Envelope}
