@@ -3,7 +3,7 @@ use Prim.Native.Nat.{ℕ, zero, suc, _+_, _%_, _^_}
 use Rattle.envelope.specs.Sets.{setVolume}
 use Rattle.sid.specs.Sid.{fresh}
 use Rattle.sid.specs.declared.Mos6581.{Mos6581}
-use Rattle.tail.specs.Tail.{Forecasts, clocks, refused, forecastOf}
+use Rattle.tail.specs.Tail.{ForecastTold, clocks, refused, forecastOf}
 
 -- voice 0 at another level
 unfoldable pub atLevel : Mos6581 → ℕ → Mos6581
@@ -17,7 +17,7 @@ atLevel c level = record {
   cycle = c .cycle;
 }
 
-abbrev pub clocksTold : Forecasts → ℕ
+abbrev pub clocksTold : ForecastTold → ℕ
 clocksTold (clocks n) = n
 clocksTold (refused t) = 0
 

@@ -24,7 +24,7 @@ use Rattle.sid.proofs.Ticks.{ticks-alike}
 use Rattle.calls.specs.Calls.{Which, voice-0, voice-1, voice-2, number, of, sparing}
 use Rattle.calls.proofs.Lifted.{sees-ticks}
 use Rattle.calls.proofs.Voices.{ticks-envelope}
-use Rattle.tail.specs.Tail.{Forecasts, clocks, refused, settledTold, forecastOf, clocksRun, ranChip, ranAnswer, ran, ticking}
+use Rattle.tail.specs.Tail.{ForecastTold, clocks, refused, settledTold, forecastOf, clocksRun, ranChip, ranAnswer, ran, ticking}
 
 pub voice-named : (w : Which) (c : Mos6581) → voiceOf c (number w) ≡ of w c
 unfolding voiceOf
@@ -32,11 +32,11 @@ voice-named voice-0 c = refl
 voice-named voice-1 c = refl
 voice-named voice-2 c = refl
 
-is-clocks : Forecasts → Bool
+is-clocks : ForecastTold → Bool
 is-clocks (clocks n) = true
 is-clocks (refused t) = false
 
-clocks-told : Forecasts → ℕ
+clocks-told : ForecastTold → ℕ
 clocks-told (clocks n) = n
 clocks-told (refused t) = 0
 
