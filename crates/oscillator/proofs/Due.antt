@@ -22,6 +22,7 @@ use Rattle.oscillator.specs.Ways.{Ways, loading}
 use Rattle.oscillator.specs.Oscillator.{selected, ideal, waveformAtBy, codeBy, loadsLines, loadedCodeBy, sampledBusBy, couples, pullsDown, coupledNoise, pulledNoise}
 use Rattle.oscillator.specs.Loop.{plainCode, sampleDue}
 use Rattle.oscillator.specs.Selection.{isOff, has, joined, combined}
+use Rattle.oscillator.specs.declared.WaveformSelect.{WaveformSelect}
 use Rattle.oscillator.specs.declared.Control.{Control}
 use Rattle.oscillator.specs.declared.Tone.{Tone}
 
@@ -73,8 +74,15 @@ pub code-plain : (w : Ways) (c : Control) (t : Tone) (visible floats m : ℕ) �
 unfolding codeBy plainCode waveformAtBy
 code-plain w c t visible floats m e = rw e refl
 
+pub joined-le : (s : WaveformSelect) (flag wave lines : ℕ) → joined s flag wave lines ≤ lines
+joined-le s flag wave lines = go (has s flag)
+  where
+    go : (h : Bool) → cond h (bitAnd lines wave) lines ≤ lines
+    go true = and-le-l lines wave
+    go false = le-refl lines
+
 -- lines joined from 0xfff fit twelve bits
-ideal-small : (c : Control) (t : Tone) (visible m : ℕ) → isOff (selected c) ≡ false → ideal c t visible m % 4096 ≡ ideal c t visible m
+pub ideal-small : (c : Control) (t : Tone) (visible m : ℕ) → isOff (selected c) ≡ false → ideal c t visible m % 4096 ≡ ideal c t visible m
 unfolding ideal combined
 ideal-small c t visible m off = rw off (small _ (le-trans (join 8 visible _) (le-trans (join 4 _ _) (le-trans (join 2 _ _) (join 1 _ 0xfff)))))
   where
@@ -82,11 +90,7 @@ ideal-small c t visible m off = rw off (small _ (le-trans (join 8 visible _) (le
     small x h = omega (arith, h)
 
     join : (flag wave lines : ℕ) → joined (selected c) flag wave lines ≤ lines
-    join flag wave lines = go (has (selected c) flag)
-      where
-        go : (h : Bool) → cond h (bitAnd lines wave) lines ≤ lines
-        go true = and-le-l lines wave
-        go false = le-refl lines
+    join = joined-le (selected c)
 
 unloaded : (c : Control) → selected c .raw ≡ 0 → loadsLines c ≡ false
 unfolding loadsLines needsLoading drivers

@@ -253,7 +253,7 @@ impl Control {
         false
     }
 
-    fn noise_is_driven(self) -> bool
+    pub fn noise_is_driven(self) -> bool
         ensures { λ r. ⌜ r ≡ noiseIsDriven self ⌝ }
     {
         let sel = self.selected();

@@ -1,5 +1,6 @@
-// Any number of clocks in one loop. The parts of the voices stand in locals of their own, and an array is touched only
-// where something is due.
+// Any number of clocks in one loop, which also stores what is heard of them where it is lent room. The parts of the
+// voices stand in locals of their own, what control decides is worked out ahead, and an array is touched only where
+// something is due.
 use floating::FloatingBus;
 use noise::NoiseGenerator;
 use oscillator::Oscillator;
@@ -8,14 +9,20 @@ use refusals::Refused;
 use sid::Mos6581;
 use sid::Voice;
 use tables::Filled;
+use wiring::Wiring;
 ghost use mathlib.Core.Path.{_≡_};
+ghost use Prim.Native.Nat.{_+_, _≤_};
+ghost use mathlib.Core.List.{[], _∷_};
 ghost use lib.ListN.{length};
+ghost use lib.Seq.{sets};
 ghost use Rattle.tables.specs.Tables.{told};
 ghost use Rattle.sid.specs.Sid.{ticks, ticksBy};
 ghost use Rattle.pack.specs.Pack.{refusal, over};
 ghost use Rattle.run.specs.Answers.{packRan};
+ghost use Rattle.run.specs.Render.{clocksIn, renderedBy, packRendered};
+ghost use Rattle.run.specs.Loop.{storedBy};
 
-// What a run over a pack gives: where it is refused, the chip as it was.
+// What a run, or a rendering, over a pack gives: where it is refused, the chip as it was.
 pub struct PackRan {
     pub chip: Mos6581,
     pub answer: Filled,
@@ -50,6 +57,62 @@ pub fn run_packed(chip: Mos6581, n: u64, pack: &[u16]) -> PackRan
 pub fn run_over(chip: Mos6581, n: u64, pack: &[u16]) -> Mos6581
     ensures { λ r. ⌜ r ≡ ticksBy (over (now (pack .entry))) n chip ⌝ }
 {
+    let mut none = [0u16; 0];
+    run_into(chip, n, pack, &mut none)
+}
+
+// As many clocks as `out` has room for, six numbers each: the three codes, then the three levels.
+pub fn render(chip: Mos6581, pack: &[u16], out: &mut [u16]) -> PackRan
+    ensures { λ r. ⌜ (r .chip ≡ packRan (now (pack .entry)) (clocksIn (now (out .entry))) chip) × (told (r .answer) ≡ refusal (length (now (pack .entry)))) × (now (out .exit) ≡ packRendered (now (pack .entry)) chip (now (out .entry))) ⌝ }
+{
+    if pack.len() != pack::LENGTH {
+        return PackRan {
+            chip,
+            answer: Filled::Refused(Refused {
+                why: Refusal::PackLength,
+                place: 0,
+            }),
+        };
+    }
+    PackRan {
+        chip: render_over(chip, pack, out),
+        answer: Filled::Done,
+    }
+}
+
+// The same over a pack of any length.
+pub fn render_over(chip: Mos6581, pack: &[u16], out: &mut [u16]) -> Mos6581
+    ensures { λ r. ⌜ (r ≡ ticksBy (over (now (pack .entry))) (clocksIn (now (out .entry))) chip) × (now (out .exit) ≡ renderedBy (over (now (pack .entry))) chip (now (out .entry))) ⌝ }
+{
+    let n = (out.len() / 6) as u64;
+    run_into(chip, n, pack, out)
+}
+
+fn store(
+    out: &mut [u16],
+    at: usize,
+    code_0: u16,
+    code_1: u16,
+    code_2: u16,
+    level_0: u8,
+    level_1: u8,
+    level_2: u8,
+)
+    requires { ⌜ at + 6 ≤ length (now out) ⌝ }
+    ensures { λ _. ⌜ now (out .exit) ≡ sets (now (out .entry)) at («code_0» ∷ «code_1» ∷ «code_2» ∷ «level_0» ∷ «level_1» ∷ «level_2» ∷ []) ⌝ }
+{
+    out[at] = code_0;
+    out[at + 1] = code_1;
+    out[at + 2] = code_2;
+    out[at + 3] = level_0 as u16;
+    out[at + 4] = level_1 as u16;
+    out[at + 5] = level_2 as u16;
+}
+
+// n clocks, of which the first are stored, as many as `out` has room for.
+fn run_into(chip: Mos6581, n: u64, pack: &[u16], out: &mut [u16]) -> Mos6581
+    ensures { λ r. ⌜ (r ≡ ticksBy (over (now (pack .entry))) n chip) × (now (out .exit) ≡ storedBy (over (now (pack .entry))) n chip (now (out .entry))) ⌝ }
+{
     let mut data_bus = chip.data_bus;
     let mut cycle = chip.cycle;
     let control_0 = chip.voice_0.oscillator.control;
@@ -76,13 +139,14 @@ pub fn run_over(chip: Mos6581, n: u64, pack: &[u16]) -> Mos6581
     let mut floating_2 = chip.voice_2.oscillator.bus.numbers;
     let mut lines_2 = chip.voice_2.oscillator.bus.charge;
     let mut envelope_2 = chip.voice_2.envelope;
-    let base_0 = pack::base(control_0);
-    let base_1 = pack::base(control_1);
-    let base_2 = pack::base(control_2);
+    let wiring_0 = Wiring::of(control_0);
+    let wiring_1 = Wiring::of(control_1);
+    let wiring_2 = Wiring::of(control_2);
     let syncs = control_0.sync_enabled | control_1.sync_enabled | control_2.sync_enabled;
     let mut quiet_0 = envelope_0.quiescent();
     let mut quiet_1 = envelope_1.quiescent();
     let mut quiet_2 = envelope_2.quiescent();
+    let room = (out.len() / 6) as u64;
     let mut i: u64 = 0;
     while i < n {
         // the bus
@@ -151,77 +215,65 @@ pub fn run_over(chip: Mos6581, n: u64, pack: &[u16]) -> Mos6581
             quiet_2 = envelope_2.quiescent();
         }
         // the voices in ring order: code, feedback, latch
-        if control_0.sample_due(floating_0, cycle) {
-            floating_0 = floating_0.sample_once_lent(cycle, &mut lines_0);
-        }
-        let mut code_0 = control_0.plain_code(
-            tone_0,
-            noise_0.visible,
-            floating_0.value,
-            tone_2.accumulator,
-        );
-        if control_0.loads_lines() {
-            let at_0 = pack::entry(base_0, code_0);
-            if at_0 < pack.len() {
-                code_0 = pack[at_0] % 4096;
-            } else {
-                code_0 = control_0.loaded_code(code_0);
+        if wiring_0.off {
+            if floating_0.leaks(cycle) {
+                floating_0 = floating_0.sample_once_lent(cycle, &mut lines_0);
             }
-        }
-        tone_0 = tone_0.sounded(control_0, code_0);
-        if control_0.couples() {
-            noise::couple(&mut charge_0, code_0);
-        }
-        if control_0.pulls_down(noise_0, cycle) {
-            noise_0 = noise_0.pull_down_lent(code_0, cycle, &mut captured_0, &mut charge_0);
-        }
-        if control_1.sample_due(floating_1, cycle) {
-            floating_1 = floating_1.sample_once_lent(cycle, &mut lines_1);
-        }
-        let mut code_1 = control_1.plain_code(
-            tone_1,
-            noise_1.visible,
-            floating_1.value,
-            tone_0.accumulator,
-        );
-        if control_1.loads_lines() {
-            let at_1 = pack::entry(base_1, code_1);
-            if at_1 < pack.len() {
-                code_1 = pack[at_1] % 4096;
-            } else {
-                code_1 = control_1.loaded_code(code_1);
+            tone_0 = tone_0.compared(control_0).latched(floating_0.value % 4096);
+        } else {
+            let mut code_0 = wiring_0.code(tone_0, noise_0.visible, tone_2.accumulator);
+            tone_0 = tone_0.compared(control_0);
+            if wiring_0.combined {
+                code_0 = wiring_0.loaded(pack, code_0);
+                tone_0 = wiring_0.fed_back(tone_0, code_0);
+                if wiring_0.couples {
+                    noise::couple(&mut charge_0, code_0);
+                }
+                if wiring_0.pulls_down(noise_0, cycle) {
+                    noise_0 = noise_0.pull_down_lent(code_0, cycle, &mut captured_0, &mut charge_0);
+                }
             }
+            tone_0 = tone_0.latched(code_0);
         }
-        tone_1 = tone_1.sounded(control_1, code_1);
-        if control_1.couples() {
-            noise::couple(&mut charge_1, code_1);
-        }
-        if control_1.pulls_down(noise_1, cycle) {
-            noise_1 = noise_1.pull_down_lent(code_1, cycle, &mut captured_1, &mut charge_1);
-        }
-        if control_2.sample_due(floating_2, cycle) {
-            floating_2 = floating_2.sample_once_lent(cycle, &mut lines_2);
-        }
-        let mut code_2 = control_2.plain_code(
-            tone_2,
-            noise_2.visible,
-            floating_2.value,
-            tone_1.accumulator,
-        );
-        if control_2.loads_lines() {
-            let at_2 = pack::entry(base_2, code_2);
-            if at_2 < pack.len() {
-                code_2 = pack[at_2] % 4096;
-            } else {
-                code_2 = control_2.loaded_code(code_2);
+        if wiring_1.off {
+            if floating_1.leaks(cycle) {
+                floating_1 = floating_1.sample_once_lent(cycle, &mut lines_1);
             }
+            tone_1 = tone_1.compared(control_1).latched(floating_1.value % 4096);
+        } else {
+            let mut code_1 = wiring_1.code(tone_1, noise_1.visible, tone_0.accumulator);
+            tone_1 = tone_1.compared(control_1);
+            if wiring_1.combined {
+                code_1 = wiring_1.loaded(pack, code_1);
+                tone_1 = wiring_1.fed_back(tone_1, code_1);
+                if wiring_1.couples {
+                    noise::couple(&mut charge_1, code_1);
+                }
+                if wiring_1.pulls_down(noise_1, cycle) {
+                    noise_1 = noise_1.pull_down_lent(code_1, cycle, &mut captured_1, &mut charge_1);
+                }
+            }
+            tone_1 = tone_1.latched(code_1);
         }
-        tone_2 = tone_2.sounded(control_2, code_2);
-        if control_2.couples() {
-            noise::couple(&mut charge_2, code_2);
-        }
-        if control_2.pulls_down(noise_2, cycle) {
-            noise_2 = noise_2.pull_down_lent(code_2, cycle, &mut captured_2, &mut charge_2);
+        if wiring_2.off {
+            if floating_2.leaks(cycle) {
+                floating_2 = floating_2.sample_once_lent(cycle, &mut lines_2);
+            }
+            tone_2 = tone_2.compared(control_2).latched(floating_2.value % 4096);
+        } else {
+            let mut code_2 = wiring_2.code(tone_2, noise_2.visible, tone_1.accumulator);
+            tone_2 = tone_2.compared(control_2);
+            if wiring_2.combined {
+                code_2 = wiring_2.loaded(pack, code_2);
+                tone_2 = wiring_2.fed_back(tone_2, code_2);
+                if wiring_2.couples {
+                    noise::couple(&mut charge_2, code_2);
+                }
+                if wiring_2.pulls_down(noise_2, cycle) {
+                    noise_2 = noise_2.pull_down_lent(code_2, cycle, &mut captured_2, &mut charge_2);
+                }
+            }
+            tone_2 = tone_2.latched(code_2);
         }
         // synchronisation
         if syncs {
@@ -230,6 +282,19 @@ pub fn run_over(chip: Mos6581, n: u64, pack: &[u16]) -> Mos6581
             tone_0 = sid::synced(tone_0, control_0, tone_2, control_2, tone_1);
             tone_1 = next_1;
             tone_2 = next_2;
+        }
+        // what is heard
+        if i < room {
+            store(
+                out,
+                (i as usize) * 6,
+                tone_0.last_sample,
+                tone_1.last_sample,
+                tone_2.last_sample,
+                envelope_0.volume,
+                envelope_1.volume,
+                envelope_2.volume,
+            );
         }
         i += 1;
     }
