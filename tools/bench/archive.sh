@@ -1,15 +1,16 @@
 #!/bin/sh
-# archive.sh: target/bench/libbench.a, libbench_pack.a, libbench_score.a and libbench_tail.a, the crates of that name for
-# this machine.
+# archive.sh: target/bench/libbench.a, libbench_pack.a, libbench_render.a, libbench_score.a and libbench_tail.a, the
+# crates of that name for this machine.
 # From the repository's root. Each is a program of its own to the compiler, as one with a single engine would be.
 # On x86-64 it is what `rt staticlib` writes. On Arm, where `rt` writes x86-64 code only, the module that it hands to its clang is caught on its way,
 # told this machine's own target, and compiled at the same level. For the benchmark only.
 set -eu
+crates='bench bench_pack bench_render bench_score bench_tail'
 mkdir -p target/bench
 case $(uname -m) in
 aarch64 | arm64) ;;
 *)
-    for crate in bench bench_pack bench_score bench_tail; do
+    for crate in $crates; do
         rt staticlib $crate
         cp target/staticlib/lib$crate.a target/bench/lib$crate.a
     done
@@ -32,7 +33,7 @@ for word in "\$@"; do case \$word in *.ll | *.bc) cp "\$word" "$room/module.bc" 
 exec "$tools/bin/clang" "\$@"
 WRAP
 chmod +x "$room/kit/on/aarch64/toolchain/bin/clang"
-for crate in bench bench_pack bench_score bench_tail; do
+for crate in $crates; do
     rm -f target/stamp/$crate target/staticlib/lib$crate.a
     RATTLE_HOME=$room/kit rt staticlib $crate
     "$tools/bin/clang" --target=x86_64-unknown-linux-gnu -x ir "$room/module.bc" -S -emit-llvm -O0 -o "$room/there.ll" -Wno-everything

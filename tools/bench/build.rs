@@ -1,5 +1,5 @@
-//! Finds the folder of the original and the archives of crates `bench`, `bench_pack`, `bench_score` and `bench_tail`
-//! (archive.sh), and hands them to the compiler.
+//! Finds the folder of the original and the archives of crates `bench`, `bench_pack`, `bench_render`, `bench_score` and
+//! `bench_tail` (archive.sh), and hands them to the compiler.
 
 #[path = "../find.rs"]
 mod find;
@@ -8,7 +8,7 @@ use std::path::Path;
 
 const ARCHIVE_FOLDER: &str = "../../target/bench";
 
-const ARCHIVES: [&str; 4] = ["bench", "bench_pack", "bench_score", "bench_tail"];
+const ARCHIVES: [&str; 5] = ["bench", "bench_pack", "bench_render", "bench_score", "bench_tail"];
 
 /// The original's files that `src/original.rs` includes.
 const FILES: [&str; 5] = [

@@ -1,6 +1,6 @@
 //! Plays the same scenes on this repository's chip and on the original's voices, in one process,
 //! and prints how long a clock takes on each and the ratio. The two take turns, and the least
-//! processor time of several rounds counts. A difference in what is heard ends the run with 1.
+//! processor time of several rounds counts. A difference in what is heard or stored ends the run with 1.
 
 mod original;
 
@@ -8,7 +8,8 @@ use original::{fall, GeneratedWaveShapes, Voices, DATA_BUS_HOLD_CYCLES};
 use std::hint::black_box;
 use std::process::ExitCode;
 
-// Crates `bench`, `bench_pack`, `bench_score` and `bench_tail`; and of C, the processor time of this process in microseconds.
+// Crates `bench`, `bench_pack`, `bench_render`, `bench_score` and `bench_tail`; and of C, the processor time of this
+// process in microseconds.
 extern "C" {
     fn bench_idle(clocks: u64) -> u64;
     fn bench_run(control: u8, clocks: u64) -> u64;
@@ -20,6 +21,17 @@ extern "C" {
     fn bench_pack_ticks(control: u8, clocks: u64, pack: *const u16, length: usize) -> u64;
     fn bench_both_ticks(control: u8, clocks: u64) -> u64;
     fn bench_pack_writes(seed: u16, writes: u64, apart: u64, pack: *const u16, length: usize) -> u64;
+    fn bench_render(
+        control_0: u8,
+        control_1: u8,
+        control_2: u8,
+        calls: u64,
+        pack: *const u16,
+        length: usize,
+        out: *mut u16,
+        room: usize,
+    ) -> u64;
+    fn bench_render_idle(calls: u64, pack: *const u16, length: usize, out: *mut u16, room: usize) -> u64;
     fn bench_score(score: *const u8, bytes: usize, pack: *const u16, length: usize) -> u64;
     fn bench_forecasts(calls: u64) -> u64;
     fn bench_to_held(control: u8, clocks: u32) -> u64;
@@ -37,13 +49,15 @@ enum Scene {
     PackRun(u8),
     PackTicks(u8),
     PackWrites(u64),
-    // the plain tick, where both engines are called
+    // the plain tick, where two places call its body
     BothTicks(u8),
+    // over a filled pack, each clock stored: three control bytes, or a fresh chip
+    Render(Option<[u8; 3]>),
 }
 use Scene::*;
 
 /// Name, scene and the ratio that is aimed at, if any.
-const SCENES: [(&str, Scene, Option<f64>); 36] = [
+const SCENES: [(&str, Scene, Option<f64>); 46] = [
     ("run, fresh chip", Idle, Some(0.85)),
     ("run, three pulses", Run(0x41), Some(1.0)),
     ("run, three noises", Run(0x81), Some(1.0)),
@@ -77,13 +91,27 @@ const SCENES: [(&str, Scene, Option<f64>); 36] = [
     ("pack run, selection 15", PackRun(0xf1), Some(0.8)),
     ("pack run, any write every 100", PackWrites(100), None),
     ("pack run, any write every 1000", PackWrites(1000), None),
-    ("tick beside it, three pulses", BothTicks(0x41), None),
+    ("tick called from two places, nothing selected", BothTicks(0x01), None),
+    ("tick called from two places, three pulses", BothTicks(0x41), None),
+    ("tick called from two places, three noises", BothTicks(0x81), None),
     ("pack tick, three pulses", PackTicks(0x41), None),
     ("pack tick, selection 3", PackTicks(0x31), None),
+    ("render, fresh chip", Render(None), Some(0.85)),
+    ("render, three pulses", Render(Some([0x41; 3])), Some(0.6)),
+    ("render, three noises", Render(Some([0x81; 3])), Some(0.6)),
+    ("render, selection 3", Render(Some([0x31; 3])), Some(0.85)),
+    ("render, selection 5", Render(Some([0x51; 3])), Some(0.85)),
+    ("render, selection 6", Render(Some([0x61; 3])), Some(0.85)),
+    ("render, selections 3, 5 and 6", Render(Some([0x31, 0x51, 0x61])), Some(0.85)),
+    ("render, selections 4, 5 and 8", Render(Some([0x41, 0x51, 0x81])), Some(0.85)),
 ];
 
 /// Entries of a pack.
 const PACK: usize = 45_056;
+
+/// Clocks that a call of render stores, and the entries of its buffer.
+const CHUNK: u64 = 1000;
+const ROOM: usize = 6 * CHUNK as usize;
 
 const SEED: u16 = 5;
 
@@ -106,6 +134,14 @@ fn afloat(control: u8) -> Voices {
     for address in [0x04, 0x0b, 0x12] {
         voices.write(address, 0x01);
     }
+    voices
+}
+
+/// Crate `bench_render`'s `mixed`.
+fn mixed([first, second, third]: [u8; 3]) -> Voices {
+    let mut voices = scene(first);
+    voices.write(0x0b, second);
+    voices.write(0x12, third);
     voices
 }
 
@@ -134,6 +170,16 @@ fn ticks(voices: &mut Voices, clocks: u64) -> u64 {
     sum
 }
 
+/// As many clocks as there is room for: three codes and three levels each.
+#[inline(never)]
+fn render(voices: &mut Voices, out: &mut [u16]) {
+    for clock in out.chunks_exact_mut(6) {
+        let (codes, levels) = voices.tick();
+        clock[..3].copy_from_slice(&codes);
+        clock[3..].copy_from_slice(&levels.map(u16::from));
+    }
+}
+
 #[inline(never)]
 fn stir(voices: &mut Voices, writes: u64, apart: u64, any: bool) -> u64 {
     let mut seed = SEED;
@@ -158,7 +204,7 @@ fn timed(play: impl FnOnce() -> u64) -> (u64, i64) {
     (digest, unsafe { clock() } - start)
 }
 
-fn original(scene_of: Scene, clocks: u64) -> (u64, i64) {
+fn original(scene_of: Scene, clocks: u64, out: &mut [u16]) -> (u64, i64) {
     match scene_of {
         Idle => {
             let mut voices = Voices::new();
@@ -184,11 +230,21 @@ fn original(scene_of: Scene, clocks: u64) -> (u64, i64) {
             let mut voices = Voices::new();
             timed(|| stir(&mut voices, clocks / apart, apart, true))
         }
+        Render(controls) => {
+            let mut voices = controls.map_or_else(Voices::new, mixed);
+            timed(|| {
+                for _ in 0..clocks / CHUNK {
+                    render(&mut voices, black_box(&mut *out));
+                }
+                digest(voices.codes(), voices.levels())
+            })
+        }
     }
 }
 
-fn ours(scene_of: Scene, clocks: u64, pack: &[u16]) -> (u64, i64) {
+fn ours(scene_of: Scene, clocks: u64, pack: &[u16], out: &mut [u16]) -> (u64, i64) {
     let (start, length) = (pack.as_ptr(), pack.len());
+    let (to, room) = (out.as_mut_ptr(), out.len());
     timed(|| unsafe {
         match scene_of {
             Idle => bench_idle(clocks),
@@ -200,6 +256,10 @@ fn ours(scene_of: Scene, clocks: u64, pack: &[u16]) -> (u64, i64) {
             PackTicks(control) => bench_pack_ticks(control, clocks, start, length),
             BothTicks(control) => bench_both_ticks(control, clocks),
             PackWrites(apart) => bench_pack_writes(SEED, clocks / apart, apart, start, length),
+            Render(None) => bench_render_idle(clocks / CHUNK, start, length, to, room),
+            Render(Some([first, second, third])) => {
+                bench_render(first, second, third, clocks / CHUNK, start, length, to, room)
+            }
         }
     })
 }
@@ -299,46 +359,58 @@ fn waiting(rounds: u64, clocks: u32) -> ([f64; 2], bool) {
     (least.map(|time| time as f64 * 1000.0 / f64::from(clocks)), same)
 }
 
+/// The names of a table's columns.
+fn heads(first: &str, second: &str) {
+    println!("{:<46}{first:>10}{second:>8}{:>8}{:>8}", "", "ratio", "aim");
+}
+
+/// A line of a table: two times, their ratio, and the ratio that is aimed at, if any.
+fn row(name: &str, [first, second]: [f64; 2], aim: Option<f64>) {
+    let aim = aim.map_or(String::new(), |aim| format!("{aim:.2}"));
+    println!("{name:<46}{first:>10.1}{second:>8.1}{:>8.2}{aim:>8}", second / first);
+}
+
 fn main() -> ExitCode {
     let mut words = std::env::args().skip(1).map(|word| word.parse::<u64>());
     let rounds = words.next().map_or(9, |word| word.expect("rounds: a number"));
     let clocks = words.next().map_or(2_000_000, |word| word.expect("clocks: a number"));
     println!("{rounds} rounds of {clocks} clocks; ns a clock");
-    println!("{:<32}{:>10}{:>8}{:>8}{:>8}", "", "original", "here", "ratio", "aim");
+    heads("original", "here");
     let mut pack = vec![0; PACK];
-    let [theirs, here] = filling(rounds, &mut pack);
+    let filled = filling(rounds, &mut pack);
     let mut differ = false;
     let mut tick = 0.0;
     for (name, scene_of, aim) in SCENES {
         let mut least = [i64::MAX; 2];
         for _ in 0..rounds {
-            let (theirs, time) = original(scene_of, clocks);
+            // no code and no level: what is not stored shows
+            let mut stored = [[u16::MAX; ROOM]; 2];
+            let (theirs, time) = original(scene_of, clocks, &mut stored[0]);
             least[0] = least[0].min(time);
-            let (here, time) = ours(scene_of, clocks, &pack);
+            let (here, time) = ours(scene_of, clocks, &pack, &mut stored[1]);
             least[1] = least[1].min(time);
-            differ |= theirs != here;
+            differ |= theirs != here || stored[0] != stored[1];
         }
-        let [theirs, here] = least.map(|time| time as f64 * 1000.0 / clocks as f64);
+        let times = least.map(|time| time as f64 * 1000.0 / clocks as f64);
         if let Idle = scene_of {
-            tick = theirs;
+            tick = times[0];
         }
-        let aim = aim.map_or(String::new(), |aim| format!("{aim:.2}"));
-        println!("{name:<32}{theirs:>10.1}{here:>8.1}{:>8.2}{aim:>8}", here / theirs);
+        row(name, times, aim);
     }
-    println!("{:<32}{theirs:>10.1}{here:>8.1}{:>8.2}{:>8.2}", "pack filled, ms", here / theirs, 1.0);
-    let ([unwatched, watched], due) = watching(rounds, &pack);
-    println!("{:<32}{:>10}{:>8}{:>8}{:>8}", "", "unwatched", "watched", "ratio", "aim");
-    println!("{:<32}{unwatched:>10.1}{watched:>8.1}{:>8.2}{:>8.2}", "score of 100,000,000 clocks", watched / unwatched, 1.05);
+    row("pack filled, ms", filled, Some(1.0));
+    let (times, due) = watching(rounds, &pack);
+    heads("unwatched", "watched");
+    row("score of 100,000,000 clocks", times, Some(1.05));
     let (forecast, right) = forecasting(rounds);
-    println!("{:<32}{:>10}{:>8}{:>8}{:>8}", "", "a tick", "here", "ratio", "aim");
-    println!("{:<32}{tick:>10.1}{forecast:>8.1}{:>8.2}{:>8.2}", "forecast", forecast / tick, 1.0);
-    let ([run, waited], same) = waiting(rounds, clocks.try_into().expect("clocks: 32 bits"));
-    println!("{:<32}{:>10}{:>8}{:>8}{:>8}", "", "run", "to held", "ratio", "aim");
-    println!("{:<32}{run:>10.1}{waited:>8.1}{:>8.2}{:>8.2}", "run, three pulses", waited / run, 1.1);
+    heads("a tick", "here");
+    row("forecast", [tick, forecast], Some(1.0));
+    let (times, same) = waiting(rounds, clocks.try_into().expect("clocks: 32 bits"));
+    heads("run", "to held");
+    row("run, three pulses", times, Some(1.1));
     if differ || !due || !right || !same {
-        println!("what is heard, listed or forecast DIFFERS");
+        println!("what is heard, stored, listed or forecast DIFFERS");
         return ExitCode::FAILURE;
     }
-    println!("what is heard is equal in every scene, and what is listed and forecast is due");
+    println!("what is heard and stored is equal in every scene, and what is listed and forecast is due");
     ExitCode::SUCCESS
 }
