@@ -1,7 +1,8 @@
-// Replays the oracle's calls on one chip and one pack, from standard input: what each answered; ticks answer for every
-// clock by a digest.
+// Replays the oracle's calls on one chip and one pack, from standard input: what each answered; ticks and renders answer
+// for every clock by a digest.
 // The list is made by tools/oracle, which says how it is laid out: cargo run --release -- list sid
 use cases::Tally;
+use run::PackRan;
 use sid::Answer;
 use sid::Mos6581;
 use tables::Filled;
@@ -124,21 +125,86 @@ fn shown(chip: Mos6581) -> Answered {
     }
 }
 
+// What was made over a pack, or the refusal.
+fn ran(r: PackRan) -> Answered {
+    let chip = r.chip;
+    let answer = r.answer;
+    match answer {
+        Filled::Done => shown(chip),
+        Filled::Refused(why) => Answered {
+            chip,
+            answer: cases::refusal(why),
+        },
+    }
+}
+
 // The chip is run so many clocks.
 fn run(engine: u8, chip: Mos6581, clocks: u32, pack: &[u16]) -> Answered {
     if engine == 0 {
         return shown(run::run(chip, clocks as u64));
     }
-    let r = run::run_packed(chip, clocks as u64, pack);
-    let after = r.chip;
-    let answer = r.answer;
-    match answer {
-        Filled::Done => shown(after),
-        Filled::Refused(why) => Answered {
-            chip: after,
-            answer: cases::refusal(why),
-        },
+    ran(run::run_packed(chip, clocks as u64, pack))
+}
+
+fn wide(entry: u16) -> u64 {
+    entry as u64
+}
+
+// The outputs stored from a place on.
+fn stored(out: &[u16], at: usize) -> u64
+    requires { ⌜ at + 6 ≤ length (now out) ⌝ }
+{
+    let code = codes(out[at], out[at + 1], out[at + 2]);
+    let level = (wide(out[at + 3]) << 36) | (wide(out[at + 4]) << 44) | (wide(out[at + 5]) << 52);
+    code | level
+}
+
+// Whether the chip, ticked clock by clock, tells the outputs that are stored, and comes to the cycle of the one that was
+// rendered.
+fn as_ticked(before: Mos6581, after: Mos6581, part: &[u16], out: &[u16]) -> bool {
+    let mut chip = before;
+    let mut rest = out.len() / 6;
+    let mut at: usize = 0;
+    while 0 < rest {
+        let gave = outputs(tick::tick_over(chip, part));
+        let next = gave.chip;
+        chip = next;
+        if gave.answer != stored(out, at) {
+            return false;
+        }
+        at = at + 6;
+        rest = rest - 1;
     }
+    chip.cycle == after.cycle
+}
+
+// What a render told; more than any outputs where the ticked chip tells others.
+fn checked(before: Mos6581, gave: Answered, part: &[u16], out: &[u16]) -> Answered {
+    let chip = gave.chip;
+    if as_ticked(before, chip, part, out) {
+        return gave;
+    }
+    Answered {
+        chip,
+        answer: 1 << 63,
+    }
+}
+
+// Into a buffer, over a part of the pack: by the call that refuses all parts but the whole, or by the one that takes any.
+fn render(strict: bool, before: Mos6581, part: &[u16], out: &mut [u16]) -> Answered {
+    if strict {
+        let gave = ran(run::render(before, part, out));
+        if part.len() != pack::LENGTH {
+            return gave;
+        }
+        return checked(before, gave, part, out);
+    }
+    checked(
+        before,
+        shown(run::render_over(before, part, out)),
+        part,
+        out,
+    )
 }
 
 fn fill(pack: &mut [u16]) -> u64 {
@@ -213,12 +279,54 @@ fn packed(rule: u8, pack: &mut [u16]) -> u64 {
     digest(pack)
 }
 
+// A buffer laid with numbers, and rendered into: a digest of all its entries, what was told, and the chip's cycle.
+fn rendered(strict: bool, before: Mos6581, part: &[u16], out: &mut [u16]) -> Answered {
+    scatter(out);
+    let gave = render(strict, before, part, out);
+    let chip = gave.chip;
+    let told = cases::mixed(digest(out), gave.answer);
+    Answered {
+        chip,
+        answer: cases::mixed(told, chip.cycle),
+    }
+}
+
+// So many entries of a buffer, over so many of the pack; no call asks for more than there are.
+fn rendered_over(strict: bool, chip: Mos6581, length: u16, entries: u32, pack: &[u16]) -> Answered {
+    let mut room = [0u16; 24581];
+    if pack.len() < (length as usize) {
+        return silent(chip);
+    }
+    if 24581 < entries {
+        return silent(chip);
+    }
+    rendered(
+        strict,
+        chip,
+        &pack[..(length as usize)],
+        &mut room[..(entries as usize)],
+    )
+}
+
 // Whether a call was refused for the length of its pack, its chip as it was: no clock leaves the cycle alone.
 fn kept(chip: Mos6581, after: Mos6581, answer: u64) -> bool {
     if after.cycle != chip.cycle {
         return false;
     }
     answer == 15 << 32
+}
+
+// Whether a render over a part is refused, and stores nothing.
+fn left_alone(chip: Mos6581, part: &[u16]) -> bool {
+    let mut out = [0u16; 13];
+    scatter(&mut out);
+    let laid = digest(&out);
+    let gave = render(true, chip, part, &mut out);
+    let after = gave.chip;
+    if digest(&out) != laid {
+        return false;
+    }
+    kept(chip, after, gave.answer)
 }
 
 // Whether a part is refused by each call that takes a pack.
@@ -231,6 +339,9 @@ fn refused(chip: Mos6581, part: &mut [u16]) -> bool {
     let run = run(1, chip, 1, part);
     let ran = run.chip;
     if !kept(chip, ran, run.answer) {
+        return false;
+    }
+    if !left_alone(chip, part) {
         return false;
     }
     fill(part) == 15 << 32
@@ -298,10 +409,12 @@ fn made(
             chip,
             answer: packed(value, pack),
         },
-        _ => Answered {
+        13 => Answered {
             chip,
             answer: lengths(chip, address),
         },
+        14 => rendered_over(true, chip, address, clocks, pack),
+        _ => rendered_over(false, chip, address, clocks, pack),
     }
 }
 

@@ -1,7 +1,7 @@
 //! Calls that fall where something inside the chip is under way: what to wait for, and what to
 //! write then, both chosen by looking at the original's own state.
 
-use crate::calls::{Call, Pace, Recorder, Rule};
+use crate::calls::{Call, Pace, Recorder, Rule, PACK_LENGTH};
 use crate::random::Random;
 use crate::sid::constants::{
     DATA_BUS_HOLD_CYCLES, NEVER, NOISE_TEST_LEAK_INTERVAL_CYCLES, NOISE_TEST_LOGIC_THRESHOLD,
@@ -36,6 +36,9 @@ const LEVELS: [u8; 14] = [
 
 pub type Wanted = Box<dyn Fn(&Mos6581) -> bool>;
 
+/// How clocks are made, from one wait to the next.
+pub type Paces = fn(&mut Recorder, &mut Random) -> Pace;
+
 /// The pack that a seed's calls are played over; without one, the engine is the plain one.
 pub fn pack(seed: u64) -> Option<Rule> {
     match seed % 4 {
@@ -67,14 +70,20 @@ pub fn seeded_calls(recorder: &mut Recorder, seed: u64, ticks: u64) {
         14..=21 => fade(recorder, &mut random),
         _ => {}
     }
-    go_on(recorder, &mut random, ticks, patience);
+    go_on(recorder, &mut random, ticks, patience, any_pace_or_render);
 }
 
 /// A fresh chip, and at least so many ticks, with calls aimed at what is under way in it. No wait
 /// is longer than `patience`.
-pub fn calls(recorder: &mut Recorder, random: &mut Random, ticks: u64, patience: u32) {
+pub fn calls(
+    recorder: &mut Recorder,
+    random: &mut Random,
+    ticks: u64,
+    patience: u32,
+    paces: Paces,
+) {
     begin(recorder, random);
-    go_on(recorder, random, ticks, patience);
+    go_on(recorder, random, ticks, patience, paces);
 }
 
 fn begin(recorder: &mut Recorder, random: &mut Random) {
@@ -82,11 +91,12 @@ fn begin(recorder: &mut Recorder, random: &mut Random) {
     set_up(recorder, random);
 }
 
-fn go_on(recorder: &mut Recorder, random: &mut Random, ticks: u64, patience: u32) {
+fn go_on(recorder: &mut Recorder, random: &mut Random, ticks: u64, patience: u32, paces: Paces) {
     let end = recorder.ticked + ticks;
     while recorder.ticked < end {
         let voice = random.below(3) as usize;
-        wait(recorder, voice, random, patience);
+        let pace = paces(recorder, random);
+        wait(recorder, voice, random, patience, pace);
         for _ in 0..=random.below(3) {
             act(recorder, voice, random);
         }
@@ -276,12 +286,13 @@ fn approach(recorder: &mut Recorder, clocks: u64, random: &mut Random) {
 
 /// Past the leak that was approached.
 fn pass(recorder: &mut Recorder, random: &mut Random) {
-    recorder.make(&[random.pick(&[
-        Call::Tick(4),
-        Call::Watch(0x1b, 4),
-        Call::Run(4),
-        Call::Run(2),
-    ])]);
+    let (pace, clocks) = match random.below(5) {
+        0 => (Pace::Tick, 4),
+        1 => (Pace::Watch(0x1b), 4),
+        2 => (Pace::Run, random.pick(&[2, 4])),
+        _ => (any_render(recorder, random), 4),
+    };
+    recorder.clock_until(pace, clocks, |_| false);
 }
 
 /// A call that hardly ever touches a voice's selection and test.
@@ -349,13 +360,38 @@ fn steps_short(oscillator: &Oscillator) -> Option<u32> {
     })
 }
 
-fn wait(recorder: &mut Recorder, voice: usize, random: &mut Random, patience: u32) {
-    let pace = match random.below(8) {
+pub fn any_pace(_: &mut Recorder, random: &mut Random) -> Pace {
+    match random.below(8) {
         0 | 1 => Pace::Run,
         2 => Pace::Watch(0x1c),
         3 => Pace::Watch(any_address(random)),
         _ => Pace::Tick,
-    };
+    }
+}
+
+pub fn any_pace_or_render(recorder: &mut Recorder, random: &mut Random) -> Pace {
+    match random.below(3) {
+        0 => any_render(recorder, random),
+        _ => any_pace(recorder, random),
+    }
+}
+
+/// A render that leaves any number of entries, after one that is refused or over a part of the pack
+/// at times.
+fn any_render(recorder: &mut Recorder, random: &mut Random) -> Pace {
+    let past = random.below(6);
+    let part = random.below(PACK_LENGTH as u32) as u16;
+    let lent = random.pick(&[0, 1, PACK_LENGTH as u16 - 1, part]);
+    let entries = 6 * random.below(10) + past;
+    match random.below(24) {
+        0 => recorder.make(&[Call::Render(lent, entries)]),
+        1 => recorder.make(&[Call::RenderOver(lent, entries)]),
+        _ => {}
+    }
+    recorder.render_leaving(past)
+}
+
+fn wait(recorder: &mut Recorder, voice: usize, random: &mut Random, patience: u32, pace: Pace) {
     // Half of the waits are short, so that calls often meet within a few clocks.
     if random.below(2) == 0 {
         return recorder.clock_until(pace, random.below(12), |_| false);

@@ -16,10 +16,18 @@
 //! a digest of its entries, the last one first. The pack has 45,056 of them, all 0 at first.
 //!
 //! `Lengths` has the greatest length as its address. Of 65,536 entries, laid as by `Rule::Scatter`,
-//! it lends as many to `tick_packed`, `run_packed` and `fill`, and then one fewer until there is
-//! none. It answers with a digest of two fields: how many lengths not all three refused, from bit 32
+//! it lends as many to `tick_packed`, `run_packed`, `render` and `fill`, and then one fewer until there
+//! is none. It answers with a digest of two fields: how many lengths not all four refused, from bit 32
 //! on, and the first such one's number among the lengths lent, from 1; then a digest of the entries.
-//! A tick that told bits as lost has not refused.
+//! A tick that told bits as lost has not refused, nor a render that stored.
+//!
+//! `Render` and `RenderOver` have a length as their address: so many entries of the pack are lent, all
+//! of them or fewer, to `render` and to `render_over`. In the place of the clocks they have the entries
+//! of the buffer, 24,581 at the most, which is laid as by `Rule::Scatter` before. They answer with a
+//! digest of three fields: a digest of the buffer, as of a pack; the outputs after the last clock, or
+//! the refusal; the cycle. `RenderOver` with no entry of the pack is the plain engine, and where some
+//! are lent, the original has those in place of its settled codes. `render` refuses all lengths but the
+//! whole.
 //!
 //! The port has one cycle for the three voices. The original has three, and each record is made only
 //! where they agree and count the clocks since the chip was made or last reset.
@@ -31,8 +39,8 @@ use crate::sid::sid::Mos6581;
 use crate::sid::waveforms::GeneratedWaveShapes;
 
 use Call::{
-    Code, Held, Lengths, Level, New, Pack, Read, Reset, Run, SetPotX, SetPotY, Tick, Watch,
-    Write as WriteCall,
+    Code, Held, Lengths, Level, New, Pack, Read, Render, RenderOver, Reset, Run, SetPotX, SetPotY,
+    Tick, Watch, Write as WriteCall,
 };
 
 pub const RECORD_BYTES: usize = 16;
@@ -43,8 +51,14 @@ const BLOCK_OF_9: std::ops::Range<usize> = 16_384..20_480;
 /// Entries of which parts of every length are lent.
 const LENT: usize = 65_536;
 
+/// Clocks for which the longest buffer has room; each takes six entries.
+const MOST_RENDERED: u32 = 4_096;
+const ENTRIES_PER_CLOCK: u32 = 6;
+
 /// The number of a voice above 2 is refused (document 01, number 3 at place 0).
 const NO_SUCH_VOICE: u64 = 3 << 32;
+/// So is a pack of another length than its own (number 15 at place 0).
+const WRONG_LENGTH: u64 = 15 << 32;
 
 #[derive(Clone, Copy)]
 pub enum Call {
@@ -67,6 +81,10 @@ pub enum Call {
     Pack(Rule),
     /// Parts of each length up to this one.
     Lengths(u16),
+    /// So many entries of a buffer by the port's `render`, over so many of the pack.
+    Render(u16, u32),
+    /// So many by its `render_over`.
+    RenderOver(u16, u32),
 }
 
 /// How the pack is made, or changed from what it has.
@@ -90,6 +108,13 @@ pub enum Pace {
     Tick,
     Watch(u16),
     Run,
+    /// By `render` or by `render_over`, with so many entries of the pack lent, and so many of the
+    /// buffer past the last whole clock.
+    Render {
+        strict: bool,
+        lent: u16,
+        past: u32,
+    },
 }
 
 pub struct Recorder {
@@ -101,6 +126,11 @@ pub struct Recorder {
     pub fading: u64,
     /// Clocks of runs, whose outputs are recorded after the last.
     pub run: u64,
+    /// Renders that were not refused, and their clocks, whose outputs are each in a digest.
+    pub renders: u64,
+    pub rendered: u64,
+    /// Renders that were refused.
+    pub refused: u64,
     /// Clocks since the chip was made or last reset.
     since: u64,
     clock_by_clock: bool,
@@ -125,6 +155,9 @@ impl Recorder {
             ticked: 0,
             fading: 0,
             run: 0,
+            renders: 0,
+            rendered: 0,
+            refused: 0,
             since: 0,
             clock_by_clock: false,
         }
@@ -137,6 +170,9 @@ impl Recorder {
         self.ticked = 0;
         self.fading = 0;
         self.run = 0;
+        self.renders = 0;
+        self.rendered = 0;
+        self.refused = 0;
         self.since = 0;
         self.clock_by_clock = clock_by_clock;
         self.pack.fill(0);
@@ -216,6 +252,8 @@ impl Recorder {
                 (rule as u8, 0, digest(&self.pack))
             }
             Lengths(longest) => (0, longest, refusals_up_to(longest)),
+            Render(lent, entries) => return self.render(true, lent, entries),
+            RenderOver(lent, entries) => return self.render(false, lent, entries),
         };
         self.record(call, value, address, 0, answer);
     }
@@ -234,12 +272,49 @@ impl Recorder {
     }
 
     pub fn clocks(&self) -> u64 {
-        self.ticked + self.run
+        self.ticked + self.run + self.rendered
+    }
+
+    /// The render that has the engine of the clocks, with so many entries left of its buffer.
+    pub fn render_leaving(&self, past: u32) -> Pace {
+        let lent = if self.packed { PACK_LENGTH as u16 } else { 0 };
+        Pace::Render {
+            strict: self.packed,
+            lent,
+            past,
+        }
+    }
+
+    fn render(&mut self, strict: bool, lent: u16, entries: u32) {
+        let length = usize::from(lent);
+        if strict && length != PACK_LENGTH {
+            self.refused += 1;
+            let answer = self.rendered_answer(&[], entries, WRONG_LENGTH);
+            return self.record(Render(0, 0), 0, lent, entries, answer);
+        }
+        let codes = [&self.pack[..length], &self.settled[length..]].concat();
+        *self.chip.tables() = GeneratedWaveShapes::from_pack(&codes);
+        let past = entries % ENTRIES_PER_CLOCK;
+        let pace = Pace::Render { strict, lent, past };
+        self.clock_until(pace, entries / ENTRIES_PER_CLOCK, |_| false);
+        self.play_over_pack(self.packed);
+    }
+
+    /// What is answered where this was stored in a buffer of so many entries.
+    fn rendered_answer(&self, stored: &[u16], entries: u32, told: u64) -> u64 {
+        let mut out = vec![0; entries as usize];
+        scatter(&mut out);
+        out[..stored.len()].copy_from_slice(stored);
+        mixed(mixed(digest(&out), told), self.since)
     }
 
     /// Clocks until the chip is as wanted, `most` at the most.
     pub fn clock_until(&mut self, pace: Pace, most: u32, wanted: impl Fn(&Mos6581) -> bool) {
-        let step = if self.clock_by_clock { 1 } else { most };
+        let step = match pace {
+            _ if self.clock_by_clock => 1,
+            Pace::Render { .. } => most.min(MOST_RENDERED),
+            _ => most,
+        };
         let mut left = most;
         loop {
             let clocks = self.clock_record(pace, left.min(step), &wanted);
@@ -255,6 +330,7 @@ impl Recorder {
         let mut digest = 1;
         let mut clocks = 0;
         let mut fading = 0;
+        let mut stored = Vec::new();
         while clocks < most && !wanted(&self.chip) {
             assert!(self.chip.leaks_by_single_steps());
             let lost = self.chip.tick_losing();
@@ -262,12 +338,19 @@ impl Recorder {
             if let Pace::Watch(address) = pace {
                 digest = mixed(digest, self.chip.read(address).into());
             }
+            if let Pace::Render { .. } = pace {
+                stored.extend(codes_and_levels(&self.chip));
+            }
             clocks += 1;
             fading += u64::from(lost != 0);
         }
         self.since += u64::from(clocks);
         match pace {
             Pace::Run => self.run += u64::from(clocks),
+            Pace::Render { .. } => {
+                self.renders += 1;
+                self.rendered += u64::from(clocks);
+            }
             Pace::Tick | Pace::Watch(_) => {
                 self.ticked += u64::from(clocks);
                 self.fading += fading;
@@ -278,6 +361,12 @@ impl Recorder {
             Pace::Tick => self.record(Tick(0), engine, 0, clocks, digest),
             Pace::Watch(address) => self.record(Watch(0, 0), engine, address, clocks, digest),
             Pace::Run => self.record(Run(0), engine, 0, clocks, outputs(&self.chip)),
+            Pace::Render { strict, lent, past } => {
+                let entries = ENTRIES_PER_CLOCK * clocks + past;
+                let answer = self.rendered_answer(&stored, entries, outputs(&self.chip));
+                let call = if strict { Render } else { RenderOver };
+                self.record(call(0, 0), 0, lent, entries, answer);
+            }
         }
         clocks
     }
@@ -307,6 +396,8 @@ fn number(call: Call) -> u8 {
         Held(..) => 11,
         Pack(..) => 12,
         Lengths(..) => 13,
+        Render(..) => 14,
+        RenderOver(..) => 15,
     }
 }
 
@@ -340,6 +431,16 @@ fn scatter(entries: &mut [u16]) {
 fn digest(entries: &[u16]) -> u64 {
     let last_first = entries.iter().rev();
     last_first.fold(1, |digest, &entry| mixed(digest, entry.into()))
+}
+
+/// What a render stores for a clock: three codes, then three levels.
+fn codes_and_levels(chip: &Mos6581) -> [u16; ENTRIES_PER_CLOCK as usize] {
+    let [a, b, c] = &chip.oscillators;
+    let [d, e, f] = chip
+        .envelopes
+        .each_ref()
+        .map(|envelope| envelope.volume.into());
+    [a.last_sample, b.last_sample, c.last_sample, d, e, f]
 }
 
 fn outputs(chip: &Mos6581) -> u64 {

@@ -42,6 +42,9 @@ pub fn calls(program: &[&OsStr], seeds: u64, ticks: u64, first: u64) -> io::Resu
     let mut ticked = 0;
     let mut fading = 0;
     let mut run = 0;
+    let mut renders = 0;
+    let mut rendered = 0;
+    let mut refused = 0;
     for batch in batches(first..first + seeds, SEEDS_AT_ONCE) {
         recorder.restart(false);
         // Those that share a pack follow each other.
@@ -59,10 +62,14 @@ pub fn calls(program: &[&OsStr], seeds: u64, ticks: u64, first: u64) -> io::Resu
         ticked += recorder.ticked;
         fading += recorder.fading;
         run += recorder.run;
+        renders += recorder.renders;
+        rendered += recorder.rendered;
+        refused += recorder.refused;
     }
     println!("{seeds} seeds, {records} calls: no difference");
     println!("{ticked} clocks compared one by one, {run} in runs compared at their ends");
     println!("{fading} of those compared one by one lose bits");
+    println!("{renders} renders, {rendered} clocks, each of them compared; {refused} more refused");
     Ok(true)
 }
 

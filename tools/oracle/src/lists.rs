@@ -5,6 +5,7 @@ mod envelope;
 mod forecasts;
 mod oscillator;
 mod packs;
+mod renders;
 mod replay;
 mod rises;
 mod settling;

@@ -35,7 +35,7 @@ pub fn play(recorder: &mut Recorder) {
 fn play_over_it(recorder: &mut Recorder, random: &mut Random) {
     combine_everywhere(recorder, random);
     change_on_the_way(recorder, random);
-    aim::calls(recorder, random, AIMED_TICKS, 1_000);
+    aim::calls(recorder, random, AIMED_TICKS, 1_000, aim::any_pace);
 }
 
 /// Each selection in each voice, with any ring and sync: codes, what feeds back onto phases, and

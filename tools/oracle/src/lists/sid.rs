@@ -1,6 +1,7 @@
 //! The list `sid`: calls on the whole chip, in order. Records are described in `src/calls.rs`.
 
 use super::packs;
+use super::renders;
 use crate::aim;
 use crate::calls::Call::{
     Code, Held, Level, New, Read, Reset, Run, SetPotX, SetPotY, Tick, Watch, Write,
@@ -47,9 +48,16 @@ pub fn list() -> Vec<u8> {
     wait_long(&mut recorder, &mut random);
     leak_on_the_clock_of_a_call(&mut recorder);
     for _ in 0..AIMED_ROUNDS {
-        aim::calls(&mut recorder, &mut random, AIMED_TICKS, 1_000);
+        aim::calls(
+            &mut recorder,
+            &mut random,
+            AIMED_TICKS,
+            1_000,
+            aim::any_pace,
+        );
     }
     packs::play(&mut recorder);
+    renders::play(&mut recorder);
     recorder.records
 }
 
@@ -493,7 +501,7 @@ fn shift_and_write_back(recorder: &mut Recorder, random: &mut Random) {
 pub const ALL_STAGES: u32 = 420;
 
 /// A voice with noise alone, from a full register, some shifts on.
-fn fill_noise(recorder: &mut Recorder, number: usize, random: &mut Random) {
+pub fn fill_noise(recorder: &mut Recorder, number: usize, random: &mut Random) {
     shift_noise(recorder, number, 60 + random.below(60));
 }
 
@@ -789,7 +797,7 @@ fn ground_all_stages(recorder: &mut Recorder) {
 }
 
 /// In each voice, pulse with noise and a triangle takes charge in test, so many clocks long.
-fn drain_all_stages(recorder: &mut Recorder, clocks: u32) {
+pub fn drain_all_stages(recorder: &mut Recorder, clocks: u32) {
     renew_all_stages(recorder);
     select_all(recorder, 0xd8);
     recorder.make(&[Tick(clocks)]);
@@ -810,14 +818,14 @@ fn write_beside(recorder: &mut Recorder, register: u16) {
 }
 
 /// To just before the tick on which noise leaks.
-fn run_to_leak_of_noise(recorder: &mut Recorder, number: usize) {
+pub fn run_to_leak_of_noise(recorder: &mut Recorder, number: usize) {
     recorder.clock_until(Pace::Run, LEAK_INTERVAL, |chip| {
         chip.oscillators[number].noise_leaks_in() == Some(1)
     });
 }
 
 /// To just before the tick on which floating lines leak.
-fn run_to_leak_of_lines(recorder: &mut Recorder, number: usize) {
+pub fn run_to_leak_of_lines(recorder: &mut Recorder, number: usize) {
     recorder.clock_until(Pace::Run, FLOAT_WHOLE, |chip| {
         chip.oscillators[number].lines_leak_in() == Some(1)
     });
