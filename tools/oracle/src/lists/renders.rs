@@ -49,6 +49,8 @@ pub fn play(recorder: &mut Recorder) {
     turn_each_bit(recorder, &mut random);
     play_notes(recorder, &mut random);
     shift_and_drain(recorder, &mut random);
+    pull_in_the_aperture(recorder, &mut random);
+    compare_unheard(recorder);
     leak_within(recorder);
     fade_within(recorder);
     cut_within_each_block(recorder, &mut random);
@@ -187,6 +189,41 @@ fn shift_and_drain(recorder: &mut Recorder, random: &mut Random) {
             fill_noise(recorder, number, random);
             recorder.make(&[control(number, 0xd8), way(6 * clocks)]);
             recorder.make(&[control(number, 0x80), way(6 * ALL_STAGES)]);
+        }
+    }
+}
+
+/// Pulse with noise pulls the stages down in the aperture of a shift alone: a buffer begins, ends or
+/// lies within it; then noise shows the stages.
+fn pull_in_the_aperture(recorder: &mut Recorder, random: &mut Random) {
+    for number in 0..3 {
+        for clocks in 1..5 {
+            let way = WAYS[clocks as usize % 2];
+            fill_noise(recorder, number, random);
+            recorder.make(&[control(number, 0xc0)]);
+            recorder.clock_until(Pace::Tick, 40, |chip| {
+                aim::rises(&chip.oscillators[number], aim::BIT_19)
+            });
+            recorder.make(&[way(6 * clocks), way(6)]);
+            recorder.make(&[control(number, 0x80), way(6 * ALL_STAGES)]);
+        }
+    }
+}
+
+/// A pulse is compared while nothing is selected or other waveforms are, and a code shows the
+/// comparison made before it, also where the width has changed since.
+fn compare_unheard(recorder: &mut Recorder) {
+    for way in [WAYS[0], WAYS[1]] {
+        for number in 0..3 {
+            let width_high = 7 * number as u16 + 3;
+            for unheard in [0x00, 0x20, 0x30] {
+                sound(recorder, [4, 4, 4]);
+                for width in [0x0f, 0x00] {
+                    recorder.make(&[Write(width_high, 0x0f - width), way(6 * 2)]);
+                    recorder.make(&[control(number, unheard), Write(width_high, width)]);
+                    recorder.make(&[way(6 * 2 + 1), control(number, 0x40), way(6)]);
+                }
+            }
         }
     }
 }
