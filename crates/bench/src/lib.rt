@@ -1,6 +1,8 @@
 // Scenes that tools/bench plays on this chip and on the original, for a program in another language to call. Each gives
 // a digest of what it heard. Those over a pack are crate `bench_pack`'s, so that here `tick` has one caller, as in a
 // program with one engine.
+#![tactic(auto)]
+
 ghost use Rattle.std.specs.Prelude.{◌≡◌};
 ghost use Rattle.sid.specs.Sid.{fresh, ticked, ticks};
 ghost use Rattle.scenes.specs.Scenes.{heard, scene, summed, stirred};

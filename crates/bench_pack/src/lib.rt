@@ -1,5 +1,7 @@
 // Scenes of tools/bench over a lent pack, beside the plain `tick` called as often: here the body of a tick has two
 // callers.
+#![tactic(auto)]
+
 ghost use Rattle.std.specs.Prelude.{◌≡◌};
 ghost use Rattle.sid.specs.Sid.{ticked};
 ghost use Rattle.pack.specs.Pack.{pack_after};

@@ -1,4 +1,6 @@
 // Scenes of tools/bench that are rendered: calls of `render` one after the other, all into the same buffer.
+#![tactic(auto)]
+
 ghost use Rattle.std.specs.Prelude.{◌≡◌};
 ghost use Rattle.laws.specs.Times.{times};
 ghost use Rattle.sid.specs.Sid.{fresh};

@@ -1,4 +1,6 @@
 // Scores for tools/bench: what `replay` does but for the printing, told by the length of the listing.
+#![tactic(auto)]
+
 ghost use Rattle.std.specs.Prelude.{◌≡◌, length};
 ghost use Rattle.pack.specs.Pack.{over};
 ghost use Rattle.player.specs.Listing.{listing_by};

@@ -1,4 +1,6 @@
 // The tail planner for tools/bench: forecasts of one level after another, and a run that waits for a voice.
+#![tactic(auto)]
+
 ghost use Rattle.std.specs.Prelude.{◌≡◌};
 ghost use Rattle.oscillator.specs.Ways.{stepwise};
 ghost use Rattle.scenes.specs.Scenes.{heard, scene};

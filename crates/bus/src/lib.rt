@@ -1,24 +1,26 @@
 // The data bus (document 01, 'Data bus'; bus.rs): a byte whose bits fade, each after its own hold.
 // First the core, by value; then the Rust's methods, thin over it, on a bus that is lent and changed where it stands;
 // last, for a caller whose bus is part of a larger state, one function a method that lends it a bus by value.
+#![tactic(auto)]
+
 ghost use Rattle.std.specs.Prelude.{◌≡◌, ◌+◌, ◌-◌, ◌^◌, ◌<◌, min, max, get_or};
 ghost use Rattle.bus.specs.Bus.{holds, kept, next_expiry_for, fresh, driven, driven_read, clocked, lost, bus_clock, to_expiry};
 
-#[derive(Drop)]
+#[derive(Clone, Copy)]
 pub struct InternalDataBus {
     pub value: u8,
     pub age: u32,
     pub next_expiry: u32,
 }
 
-#[derive(Drop)]
+#[derive(Clone, Copy)]
 pub struct DrivenRead {
     pub bus: InternalDataBus,
     pub byte: u8,
 }
 
 // What a clock gives: the bus after it, and the bits that it lost.
-#[derive(Drop)]
+#[derive(Clone, Copy)]
 pub struct BusClock {
     pub bus: InternalDataBus,
     pub lost: u8,

@@ -2,6 +2,8 @@
 // The list is made by tools/oracle: cargo run --release -- list bus
 // A record of 15 bytes: the call, its operand (4), the byte it gave, of clocks the bits that the last lost; value, age
 // (4) and next expiry (4) after it.
+#![tactic(auto)]
+
 use bus::{DrivenRead, InternalDataBus};
 use cases::Tally;
 

@@ -1,5 +1,7 @@
 // What the programs that replay the oracle's lists share: a list is loaded, answers are numbers, and what was compared is
 // counted and told.
+#![tactic(auto)]
+
 ghost use Rattle.std.specs.Prelude.{◌≡◌};
 ghost use Rattle.io.specs.Counts.{IsPrefixLen};
 ghost use Rattle.cases.specs.Answers.{mixed as Answers·mixed, refusal as Answers·refusal};
@@ -7,7 +9,7 @@ ghost use Rattle.cases.specs.Tally.{none, counted};
 
 use refusals::Refused;
 
-#[derive(Drop)]
+#[derive(Clone, Copy)]
 pub struct Tally {
     pub compared: u32,
     pub differ: u32,

@@ -1,10 +1,12 @@
 // The envelope generator (document 01, 'Envelope'; envelope.rs), by value: a method gives the envelope as the Rust's
 // leaves it.
+#![tactic(auto)]
+
 ghost use Rattle.std.specs.Prelude.{◌≡◌};
 ghost use Rattle.envelope.specs.Sets.{set_motion, set_requested_motion, set_motion_delay};
 ghost use Rattle.envelope.specs.Envelope.{period_of, is_rising, rising_rate_selected, rate_in_force, target_refreshed, divisor_committed, edge, advanced, gate_sampled, motion_taken, motion_committed, divisor_for, divisor_selected, stepped_up, stepped_down, stepped, amplitude_due, amplitude_clocked, curve_ended, curve_due, curve_clocked, curve_counted, match_used, match_consumed, level_read, rate_clocked, clocked, quiescent, fresh_gate, fresh, reset, attack_decay_set, sustain_release_set, gate_set};
 
-#[derive(Drop)]
+#[derive(Clone, Copy)]
 pub enum EnvelopeMotion {
     Rising,
     FallingToSustain,
@@ -12,21 +14,21 @@ pub enum EnvelopeMotion {
 }
 
 // The Rust's `Option<bool>`: Some(true), Some(false), None.
-#[derive(Drop)]
+#[derive(Clone, Copy)]
 pub enum GateEdge {
     Rose,
     Fell,
     Still,
 }
 
-#[derive(Drop)]
+#[derive(Clone, Copy)]
 pub struct GateHistory {
     pub input: bool,
     pub stage_a: bool,
     pub stage_b: bool,
 }
 
-#[derive(Drop)]
+#[derive(Clone, Copy)]
 pub struct Envelope {
     pub volume: u8,
     pub rise_rate: u8,

@@ -1,6 +1,8 @@
 // Replays the oracle's lists data/envelope (calls on one envelope: the whole state after each) and data/rises (rises:
 // the level after each clock, the whole state after the last).
 // They are made by tools/oracle: cargo run --release -- list NAME
+#![tactic(auto)]
+
 use cases::Tally;
 use envelope::{Envelope, EnvelopeMotion};
 
@@ -80,7 +82,7 @@ fn replay_envelope(list: &[u8]) -> Tally {
     tally
 }
 
-#[derive(Drop)]
+#[derive(Clone, Copy)]
 struct Played {
     e: Envelope,
     tally: Tally,

@@ -1,5 +1,7 @@
 // Prints the score on standard input as text, a line for each field; of a score that is refused, the refusal alone.
 // One byte more than a score may have is enough to know that it is too long.
+#![tactic(auto)]
+
 use listing::TEXT;
 use score::{Checked, FieldRead};
 

@@ -1,6 +1,8 @@
 // The floating lines (document 01, 'Oscillator'; FloatingBus of oscillator.rs): twelve lines that keep a code once no
 // waveform drives them.
 // Their numbers stand apart from the array of charges, which is touched only where a leak is due.
+#![tactic(auto)]
+
 ghost use Rattle.std.specs.Prelude.{◌≡◌};
 ghost use Rattle.laws.specs.Times.{times};
 ghost use Rattle.laws.specs.Charges.{charged};
@@ -9,14 +11,14 @@ ghost use Rattle.floating.specs.Loop.{lines};
 
 use laws::{max, saturating_sub};
 
-#[derive(Drop)]
+#[derive(Clone, Copy)]
 pub struct Floating {
     pub value: u16,
     pub hold_until: u64,
     pub next_leak: u64,
 }
 
-#[derive(Drop)]
+#[derive(Clone, Copy)]
 pub struct FloatingBus {
     pub numbers: Floating,
     pub charge: [u16; 12],

@@ -1,5 +1,7 @@
 // Plays the score on standard input to its end, and prints when each voice is free; of a score that is refused, the
 // refusal alone. One byte more than a score may have is enough to know that it is too long.
+#![tactic(auto)]
+
 use score::Checked;
 use sid::{Answer, Mos6581};
 use tail::Free;

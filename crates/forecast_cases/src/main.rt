@@ -1,6 +1,8 @@
 // Replays the oracle's calls on the tail planner and on one chip, from standard input: forecasts, runs that stop when a
 // voice is held, and what a chip is brought to by states put into its voices, writes and clocks.
 // The list is made by tools/oracle, which says how it is laid out: cargo run --release -- list forecasts
+#![tactic(auto)]
+
 ghost use Rattle.std.specs.Prelude.{◌≡◌, length};
 
 use cases::Tally;
@@ -10,7 +12,7 @@ use tail::{Free, HeldRun, Ran};
 
 const DIVISORS: [u8; 6] = [1, 2, 4, 8, 16, 30];
 
-#[derive(Drop)]
+#[derive(Clone, Copy)]
 struct Answered {
     chip: Mos6581,
     answer: u64,
@@ -135,7 +137,7 @@ fn made(record: &[u8], chip: Mos6581, filled: &[u16], one_number: &[u16]) -> Ans
     }
 }
 
-#[derive(Drop)]
+#[derive(Clone, Copy)]
 struct Replayed {
     chip: Mos6581,
     tally: Tally,

@@ -1,5 +1,7 @@
 // Definitions and laws that more than one crate cites: see specs and proofs. Of code, the Rust's `max` and
 // `saturating_sub` alone.
+#![tactic(auto)]
+
 ghost use Rattle.std.specs.Prelude.{◌≡◌, ◌-◌, max};
 
 pub fn max(a: u16, b: u16) -> u16

@@ -1,5 +1,7 @@
 // The lines that `replay` prints (document 01, 'Score and program'), and those of a score's fields, each put at the
 // start of a lent buffer of `TEXT` bytes.
+#![tactic(auto)]
+
 ghost use Rattle.std.specs.Prelude.{◌≡◌, ◌+◌, ◌≤◌, ◌<◌, length};
 ghost use Rattle.refusals.specs.Refusals.{told};
 ghost use Rattle.listing.specs.Text.{Put, fits, copied, one, decimal, hex_digit, hex2, hex3, opening, spaced, voice, text_room, fade_room, line_room, read_line, levels_line, end_line, fade_line, refused_line};

@@ -2,6 +2,8 @@
 // Its numbers stand apart from the two arrays of charges, so that a caller's loop need not touch an array on a clock on
 // which nothing happens: `Noise` has what asks and moves the numbers alone, the functions on one array stand beside it,
 // and `NoiseGenerator` has the Rust's methods.
+#![tactic(auto)]
+
 ghost use Rattle.std.specs.Prelude.{◌≡◌, ◌<◌};
 ghost use Rattle.laws.specs.Times.{times};
 ghost use Rattle.laws.specs.Charges.{charged};
@@ -10,7 +12,7 @@ ghost use Rattle.noise.specs.Loop.{generator, step_due};
 
 use laws::{max, saturating_sub};
 
-#[derive(Drop)]
+#[derive(Clone, Copy)]
 pub struct Noise {
     pub state: u32,
     pub visible: u16,
@@ -20,7 +22,7 @@ pub struct Noise {
     pub next_leak: u64,
 }
 
-#[derive(Drop)]
+#[derive(Clone, Copy)]
 pub struct NoiseGenerator {
     pub numbers: Noise,
     pub captured_charge: [u16; 23],
@@ -28,7 +30,7 @@ pub struct NoiseGenerator {
 }
 
 // What the loops of `relax` change.
-#[derive(Drop)]
+#[derive(Clone, Copy)]
 struct Stages {
     state: u32,
     changed: bool,

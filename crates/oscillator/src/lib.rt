@@ -3,6 +3,8 @@
 // changes), beside the noise register and the floating lines. A caller's loop holds these apart and uses what `Control`
 // and `Tone` have; `Oscillator` has the Rust's methods. The cycle is the caller's: a method that needs it takes the
 // present one, but `clock_accumulator` the one after it.
+#![tactic(auto)]
+
 ghost use Rattle.std.specs.Prelude.{◌≡◌};
 ghost use Rattle.oscillator.specs.Selection.{select, is_off, has as Selection·has, is_combined, joined, combined};
 ghost use Rattle.oscillator.specs.Oscillator.{fresh, rising as Oscillator·rising, clocked_tone, clocked as Oscillator·clocked, phase as Oscillator·phase, rings as Oscillator·rings, triangle_phase, pulse as Oscillator·pulse, compared_tone, ideal as Oscillator·ideal, waveform_at, code as Oscillator·code, loads_lines, loaded_code, sampled_bus, evaluated, feeds_back, fed_back_tone, fed_back, latched_tone, couples as Oscillator·couples, noise_is_driven, pulls_down, coupled_noise, pulled_noise, latched_noise, latched_code, written_control, written_bus, exit_loaded, tested_noise, reset_phase, tested_tone, written, tuned, written_frequency_lo, written_frequency_hi, written_pulse_width_lo, written_pulse_width_hi, read_output, output_is_frozen, synchronised};
@@ -11,12 +13,12 @@ ghost use Rattle.oscillator.specs.Loop.{plain_code, sample_due};
 use floating::{Floating, FloatingBus};
 use noise::{Noise, NoiseGenerator};
 
-#[derive(Drop)]
+#[derive(Clone, Copy)]
 pub struct WaveformSelect {
     pub raw: u8,
 }
 
-#[derive(Drop)]
+#[derive(Clone, Copy)]
 pub struct Control {
     pub frequency: u16,
     pub pulse_width: u16,
@@ -27,7 +29,7 @@ pub struct Control {
 }
 
 // These two are laid out for speed (docs/PERFORMANCE.md).
-#[derive(Drop)]
+#[derive(Clone, Copy)]
 pub struct Tone {
     pub accumulator: u32,
     pub msb_rising: bool,
@@ -36,7 +38,7 @@ pub struct Tone {
     pub last_sample: u16,
 }
 
-#[derive(Drop)]
+#[derive(Clone, Copy)]
 pub struct Oscillator {
     pub control: Control,
     pub noise: NoiseGenerator,
@@ -44,7 +46,7 @@ pub struct Oscillator {
     pub tone: Tone,
 }
 
-#[derive(Drop)]
+#[derive(Clone, Copy)]
 pub struct Evaluated {
     pub code: u16,
     pub oscillator: Oscillator,

@@ -3,6 +3,8 @@
 // are laid out:
 // cargo run --release -- list oscillator_calls, and oscillator_states
 // The digests hold the Rust's own cycle; here the program holds it, and hands it to every call that takes one.
+#![tactic(auto)]
+
 ghost use Rattle.std.specs.Prelude.{◌+◌, ◌≤◌, length};
 
 use cases::Tally;
@@ -11,14 +13,14 @@ use noise::{Noise, NoiseGenerator};
 use oscillator::{Control, Oscillator, Tone};
 
 // An oscillator beside a cycle that runs as the Rust's own: 0 where it is made or reset, one on with each clock.
-#[derive(Drop)]
+#[derive(Clone, Copy)]
 struct Timed {
     oscillator: Oscillator,
     cycle: u64,
 }
 
 // What a call gave, and what it left.
-#[derive(Drop)]
+#[derive(Clone, Copy)]
 struct Gave {
     code: u16,
     left: Timed,
@@ -267,7 +269,7 @@ fn made(call: u8, operand: u32, timed: Timed, states: &[u8]) -> Gave {
     }
 }
 
-#[derive(Drop)]
+#[derive(Clone, Copy)]
 struct Compared {
     same: bool,
     left: Timed,

@@ -1,4 +1,6 @@
 // The pack of settled tables (document 02, request 3): filled once, then looked up on each clock of an engine over it.
+#![tactic(auto)]
+
 ghost use Rattle.std.specs.Prelude.{◌≡◌, ◌+◌, ◌*◌, ◌%◌, length};
 ghost use Rattle.oscillator.specs.Oscillator.{selected};
 ghost use Rattle.tables.specs.Tables.{told};

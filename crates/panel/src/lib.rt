@@ -1,5 +1,7 @@
 // The panel that plays a score (document 01, 'Score and program'): a chip, the clocks that it has run, and whether the
 // bits that fade from its bus are watched (document 02, request 5).
+#![tactic(auto)]
+
 ghost use Rattle.std.specs.Prelude.{◌≡◌, ◌+◌, ◌-◌, min};
 ghost use Rattle.sid.specs.Sid.{told};
 ghost use Rattle.pack.specs.Pack.{over};
@@ -7,7 +9,7 @@ ghost use Rattle.panel.specs.Panel.{fresh, ran_to_by, leapt_by, watching, writte
 
 use sid::{Answer, Mos6581};
 
-#[derive(Drop)]
+#[derive(Clone, Copy)]
 pub struct Panel {
     pub chip: Mos6581,
     pub clock: u32,
@@ -15,27 +17,27 @@ pub struct Panel {
 }
 
 // The panel after a leap, and the bits that its bus lost on the last clock of it.
-#[derive(Drop)]
+#[derive(Clone, Copy)]
 pub struct Leapt {
     pub panel: Panel,
     pub lost: u8,
 }
 
-#[derive(Drop)]
+#[derive(Clone, Copy)]
 pub struct PanelRead {
     pub panel: Panel,
     pub byte: u8,
 }
 
 // What a voice gives: its code and its level.
-#[derive(Drop)]
+#[derive(Clone, Copy)]
 pub struct Shown {
     pub code: u16,
     pub level: u8,
 }
 
 // What an `L` line says of the three voices.
-#[derive(Drop)]
+#[derive(Clone, Copy)]
 pub struct Display {
     pub voice_0: Shown,
     pub voice_1: Shown,

@@ -1,5 +1,7 @@
 // When an envelope is held at zero (document 02, request 9): of a settled release worked out by a table, of any other
 // counted.
+#![tactic(auto)]
+
 ghost use Rattle.std.specs.Prelude.{◌≡◌, true, cond, ◌-◌, ◌<◌, ◌≤◌, min, eqb};
 ghost use Rattle.release.specs.Release.{is_divisor, steps, matches, last_step};
 ghost use Rattle.release.specs.StepClocks.{lag};
@@ -136,7 +138,7 @@ fn settled_clock(e: Envelope) -> u32
 }
 
 // The clock of the last step of a settled release, the first clock being 1.
-#[derive(Drop)]
+#[derive(Clone, Copy)]
 pub enum LastStep {
     On { clock: u32 },
     Unsettled,
@@ -179,7 +181,7 @@ fn is_waiting(e: Envelope) -> bool
 }
 
 // An envelope, and the clocks that it has made.
-#[derive(Drop)]
+#[derive(Clone, Copy)]
 struct Onward {
     e: Envelope,
     clocks: u32,

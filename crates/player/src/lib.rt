@@ -2,6 +2,8 @@
 // fade on the way to it, and the whole listing in a lent buffer.
 // The codes of combined waveforms come from a lent pack of settled codes. An entry that the pack lacks is settled
 // afresh, so an empty pack serves as well.
+#![tactic(auto)]
+
 ghost use Rattle.std.specs.Prelude.{◌≡◌, cond, ◌+◌, ◌≤◌, eqb, length};
 ghost use Rattle.listing.specs.Text.{Put, text_room, fade_room};
 ghost use Rattle.pack.specs.Pack.{over};
@@ -16,7 +18,7 @@ use refusals::{Refusal, Refused};
 use score::{Checked, Field, FieldRead, What};
 
 // What a player has still to do: the fields from a place on, or to tell a refusal.
-#[derive(Drop)]
+#[derive(Clone, Copy)]
 pub enum Rest {
     Fields { at: usize },
     Refusal(Refused),
@@ -35,21 +37,21 @@ impl Rest {
     }
 }
 
-#[derive(Drop)]
+#[derive(Clone, Copy)]
 pub struct Player {
     pub panel: Panel,
     pub rest: Rest,
 }
 
 // The player after a step, and the length of its line.
-#[derive(Drop)]
+#[derive(Clone, Copy)]
 pub struct Stepped {
     pub player: Player,
     pub len: usize,
 }
 
 // The panel at a stamp, and the length of the lines of bits that fade on the way.
-#[derive(Drop)]
+#[derive(Clone, Copy)]
 struct Ran {
     panel: Panel,
     len: usize,
@@ -281,7 +283,7 @@ fn write_listing(s: &[u8], pack: &[u16], out: &mut [u8]) -> usize
     at
 }
 
-#[derive(Drop)]
+#[derive(Clone, Copy)]
 pub enum Listed {
     Written(usize),
     Refused(Refused),

@@ -1,4 +1,6 @@
 // Prints a score's listing through a buffer. The codes of combined waveforms come from a lent pack, as for the player.
+#![tactic(auto)]
+
 ghost use Rattle.oscillator.specs.Ways.{stepwise};
 ghost use Rattle.pack.specs.Pack.{over};
 ghost use Rattle.printer.specs.Fills.{Fills, Prints};
@@ -7,7 +9,7 @@ use listing::TEXT;
 use player::Player;
 
 // How far a buffer was filled: the player there, the steps left, and the bytes.
-#[derive(Drop)]
+#[derive(Clone, Copy)]
 struct Filled {
     player: Player,
     left: u32,
@@ -54,7 +56,7 @@ fn fill(from: Player, s: &[u8], pack: &[u16], steps: u32, out: &mut [u8]) -> Fil
 }
 
 // The bytes handed on: all of a listing, or those before the part whose write failed.
-#[derive(Drop)]
+#[derive(Clone, Copy)]
 pub enum Printed {
     Whole { len: usize },
     Stopped { len: usize },

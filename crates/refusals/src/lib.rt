@@ -1,8 +1,10 @@
 // The numbers that a caller can get back (document 01, 'Numbers a caller can get back', and document 02).
+#![tactic(auto)]
+
 ghost use Rattle.std.specs.Prelude.{◌≡◌};
 ghost use Rattle.refusals.specs.Refusals.{number_of};
 
-#[derive(Drop)]
+#[derive(Clone, Copy)]
 pub enum Refusal {
     NoTable,
     TableLength,
@@ -23,7 +25,7 @@ pub enum Refusal {
 }
 
 // What a refused call answers.
-#[derive(Drop)]
+#[derive(Clone, Copy)]
 pub struct Refused {
     pub why: Refusal,
     pub place: usize,

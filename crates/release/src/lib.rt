@@ -2,6 +2,8 @@
 // envelope. Demand 3 is stated in specs/Release.antt and proved in proofs/Demand3.antt; the rise and the late start of a
 // note in specs/Rise.antt, proofs/Rise.antt and proofs/Start.antt; 'Sustain 0xf0 holds at 0xff' in both Sustain.antt.
 // The code runs an envelope for a while.
+#![tactic(auto)]
+
 ghost use Rattle.std.specs.Prelude.{◌≡◌};
 ghost use Rattle.envelope.specs.Envelope.{clocks};
 

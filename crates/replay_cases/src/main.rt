@@ -1,6 +1,8 @@
 // Replays data/scores: scores one after the other, each after its length in four bytes. Its file stdout has what the
 // oracle says.
 // The lists are made by tools/oracle: cargo run --release -- list replay_scores, and list replay_listings
+#![tactic(auto)]
+
 ghost use Rattle.io.specs.Counts.{IsPrefixLen};
 
 fn read_score(file: i32, length: usize, score: &mut [u8]) -> usize

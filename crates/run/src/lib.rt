@@ -1,6 +1,8 @@
 // Any number of clocks in one loop, which also stores what is heard of them where it is lent room. The parts of the
 // voices stand in locals of their own, what control decides is worked out ahead, and an array is touched only where
 // something is due.
+#![tactic(auto)]
+
 ghost use Rattle.std.specs.Prelude.{◌≡◌, ◌+◌, ◌≤◌, [], ◌∷◌, length};
 ghost use Rattle.std.proofs.lemmas.List.Edits.{sets};
 ghost use Rattle.tables.specs.Tables.{told};
@@ -19,7 +21,7 @@ use tables::Filled;
 use wiring::Wiring;
 
 // What a run, or a rendering, over a pack gives: where it is refused, the chip as it was.
-#[derive(Drop)]
+#[derive(Clone, Copy)]
 pub struct PackRan {
     pub chip: Mos6581,
     pub answer: Filled,

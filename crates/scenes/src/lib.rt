@@ -1,4 +1,6 @@
 // What the scenes of tools/bench share: three tuned voices, and digests of what is heard of a chip.
+#![tactic(auto)]
+
 ghost use Rattle.std.specs.Prelude.{◌≡◌, ◌<◌};
 ghost use Rattle.sid.specs.Sid.{ticked};
 ghost use Rattle.scenes.specs.Scenes.{digest as Scenes·digest, heard as Scenes·heard, tuned, scene as Scenes·scene, next as Scenes·next, summed};

@@ -1,5 +1,7 @@
 // The score (document 01, 'Score and program'): tagged fields, one read at a place, and the whole checked before the
 // first clock.
+#![tactic(auto)]
+
 ghost use Rattle.std.specs.Prelude.{◌≡◌, ◌-◌, length};
 ghost use Rattle.score.specs.Fields.{len_of, what_of, value_of, refuse, field_at, is_end, is_access};
 ghost use Rattle.score.specs.Stamps.{unstamped, used, admit};
@@ -9,7 +11,7 @@ ghost use Rattle.score.specs.Given.{Judged};
 use refusals::{Refusal, Refused};
 
 // What a field asks for, without its stamp.
-#[derive(Drop)]
+#[derive(Clone, Copy)]
 pub enum What {
     Write { address: u8, value: u8 },
     Read { address: u8 },
@@ -51,14 +53,14 @@ impl What {
     }
 }
 
-#[derive(Drop)]
+#[derive(Clone, Copy)]
 pub struct Field {
     pub stamp: u32,
     pub what: What,
 }
 
 // A field and the place after it, or the refusal.
-#[derive(Drop)]
+#[derive(Clone, Copy)]
 pub enum FieldRead {
     Got(Field, usize),
     Refused(Refused),
@@ -146,7 +148,7 @@ pub fn field_at(s: &[u8], at: usize) -> FieldRead
 
 // The stamp of the field before, and the first that is free for an access: the one after the access before. Each is 0
 // if there was none.
-#[derive(Drop)]
+#[derive(Clone, Copy)]
 pub struct Order {
     pub last: u32,
     pub free: u32,
@@ -161,7 +163,7 @@ impl Order {
 }
 
 // The order that the next field meets, or the refusal.
-#[derive(Drop)]
+#[derive(Clone, Copy)]
 pub enum Admitted {
     Next(Order),
     Refused(Refusal),
@@ -206,7 +208,7 @@ pub fn admit(o: Order, f: Field) -> Admitted
     })
 }
 
-#[derive(Drop)]
+#[derive(Clone, Copy)]
 pub enum Checked {
     Accepted { clocks: u32 },
     Refused(Refused),

@@ -1,4 +1,6 @@
 // The text of a score's fields, read back: decimal numbers, the end of a line, the field of a line.
+#![tactic(auto)]
+
 ghost use Rattle.std.specs.Prelude.{◌≡◌, ◌-◌, get_or};
 ghost use Rattle.listing.specs.FieldText.{field_text};
 ghost use Rattle.script.specs.Numbers.{is_digit, none, number_at};
@@ -9,7 +11,7 @@ use refusals::Refused;
 use score::{Field, What};
 
 // The number that stands at a place, and the place after it. Where none stands, 0 and the place itself.
-#[derive(Drop)]
+#[derive(Clone, Copy)]
 pub struct Number {
     pub value: u32,
     pub next: usize,
@@ -159,7 +161,7 @@ fn is_text(line: &[u8], f: Field) -> bool
 }
 
 // What a line is, which is given without its line feed.
-#[derive(Drop)]
+#[derive(Clone, Copy)]
 pub enum LineRead {
     Got(Field),
     Other,

@@ -1,5 +1,7 @@
 // The chip without filter and converter (document 01; sid.rs): register decode, reads, resets, synchronisation. Crates
 // `tick` and `run` tick it.
+#![tactic(auto)]
+
 ghost use Rattle.std.specs.Prelude.{◌≡◌, cond};
 ghost use Rattle.oscillator.specs.Oscillator.{reset_phase};
 ghost use Rattle.refusals.specs.Refusals.{numbered};
@@ -10,13 +12,13 @@ use envelope::Envelope;
 use oscillator::{Control, Oscillator, Tone};
 use refusals::{Refusal, Refused};
 
-#[derive(Drop)]
+#[derive(Clone, Copy)]
 pub struct Voice {
     pub oscillator: Oscillator,
     pub envelope: Envelope,
 }
 
-#[derive(Drop)]
+#[derive(Clone, Copy)]
 pub struct Mos6581 {
     pub voice_0: Voice,
     pub voice_1: Voice,
@@ -27,14 +29,14 @@ pub struct Mos6581 {
     pub cycle: u64,
 }
 
-#[derive(Drop)]
+#[derive(Clone, Copy)]
 pub struct Read {
     pub chip: Mos6581,
     pub byte: u8,
 }
 
 // What a call that names a voice gives.
-#[derive(Drop)]
+#[derive(Clone, Copy)]
 pub enum Answer {
     Code { code: u16 },
     Level { level: u8 },

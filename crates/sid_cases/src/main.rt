@@ -1,6 +1,8 @@
 // Replays the oracle's calls on one chip and one pack, from standard input: what each answered; ticks and renders answer
 // for every clock by a digest.
 // The list is made by tools/oracle, which says how it is laid out: cargo run --release -- list sid
+#![tactic(auto)]
+
 ghost use Rattle.std.specs.Prelude.{◌+◌, ◌≤◌, length};
 
 use cases::Tally;
@@ -9,14 +11,14 @@ use sid::{Answer, Mos6581};
 use tables::Filled;
 use tick::Ticked;
 
-#[derive(Drop)]
+#[derive(Clone, Copy)]
 struct Answered {
     chip: Mos6581,
     answer: u64,
 }
 
 // What one clock gave: the outputs, or the refusal, and the bits that the bus lost.
-#[derive(Drop)]
+#[derive(Clone, Copy)]
 struct OneClock {
     chip: Mos6581,
     answer: u64,
@@ -433,7 +435,7 @@ fn call_at(list: &[u8], at: usize, chip: Mos6581, pack: &mut [u16]) -> Answered
     )
 }
 
-#[derive(Drop)]
+#[derive(Clone, Copy)]
 struct Replayed {
     chip: Mos6581,
     tally: Tally,

@@ -1,5 +1,7 @@
 // An envelope's whole state in 18 bytes, as tools/oracle lays it out (src/lists/envelope.rs): what the programs share that
 // replay lists with states. What is not there is 0.
+#![tactic(auto)]
+
 ghost use Rattle.std.specs.Prelude.{◌≡◌};
 ghost use Rattle.states.specs.States.{motion_at, gate_of, state_of};
 

@@ -1,11 +1,13 @@
 // Settled tables in a lent part (document 01, 'Line loading'; waveforms.rs).
+#![tactic(auto)]
+
 ghost use Rattle.std.specs.Prelude.{◌≡◌, length};
 ghost use Rattle.tables.specs.Tables.{refusal, told, table_after};
 
 use refusals::{Refusal, Refused};
 use waveforms::LineArray;
 
-#[derive(Drop)]
+#[derive(Clone, Copy)]
 pub enum Filled {
     Done,
     Refused(Refused),

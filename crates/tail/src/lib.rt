@@ -1,5 +1,7 @@
 // When a voice is free (document 02, request 9): a forecast for a settled release, and a run that stops when a voice is
 // held at zero.
+#![tactic(auto)]
+
 ghost use Rattle.std.specs.Prelude.{◌≡◌};
 ghost use Rattle.oscillator.specs.Ways.{stepwise};
 ghost use Rattle.sid.specs.Sid.{voice_of};
@@ -12,21 +14,21 @@ use refusals::{Refusal, Refused};
 use sid::Mos6581;
 
 // In how many clocks a voice is free.
-#[derive(Drop)]
+#[derive(Clone, Copy)]
 pub enum Free {
     In { clocks: u32 },
     Refused(Refused),
 }
 
 // The clocks that were run, and whether the voice is held after them: whether that stopped it.
-#[derive(Drop)]
+#[derive(Clone, Copy)]
 pub enum Ran {
     Clocks { clocks: u32, stopped: bool },
     Refused(Refused),
 }
 
 // Where the run is refused, the chip is as it was.
-#[derive(Drop)]
+#[derive(Clone, Copy)]
 pub struct HeldRun {
     pub chip: Mos6581,
     pub answer: Ran,

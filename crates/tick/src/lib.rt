@@ -1,5 +1,7 @@
 // One clock of the chip (document 01; the Rust's `tick`), with one leak step where one is due (document 02, request 12).
 // What is due is tested outside its call, so that a quiet clock touches no array.
+#![tactic(auto)]
+
 ghost use Rattle.std.specs.Prelude.{◌≡◌, length};
 ghost use Rattle.bus.specs.Bus.{lost};
 ghost use Rattle.tables.specs.Tables.{told};
@@ -15,7 +17,7 @@ use sid::{Mos6581, Voice};
 use tables::Filled;
 
 // What a tick gives: the chip after it, the codes and the levels of its voices, and the bits that its data bus lost.
-#[derive(Drop)]
+#[derive(Clone, Copy)]
 pub struct Ticked {
     pub chip: Mos6581,
     pub code_0: u16,
@@ -28,7 +30,7 @@ pub struct Ticked {
 }
 
 // What a tick over a pack gives: where it is refused, the chip as it was.
-#[derive(Drop)]
+#[derive(Clone, Copy)]
 pub struct PackTicked {
     pub ticked: Ticked,
     pub answer: Filled,

@@ -1,4 +1,6 @@
 // Triangle and line loading (document 01, 'Oscillator' and 'Line loading'; waveforms.rs).
+#![tactic(auto)]
+
 mod constants;
 mod offsets;
 
@@ -67,7 +69,7 @@ fn powi(base: f32, exponent: u32) -> f32
 }
 
 // The coupling of a source and a destination stands at `source * 12 + destination`.
-#[derive(Drop)]
+#[derive(Clone, Copy)]
 pub struct LineArray {
     pub selection: u8,
     pub coupling: [f32; 144],

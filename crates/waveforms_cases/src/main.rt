@@ -1,5 +1,7 @@
 // Replays the oracle's lists data/waveforms (triangles, loaded codes, refusals, all settled tables) and data/settling
 // (codes at the edge of a line). They are made by tools/oracle: cargo run --release -- list NAME
+#![tactic(auto)]
+
 use cases::Tally;
 use tables::Filled;
 use waveforms::LineArray;

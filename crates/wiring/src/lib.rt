@@ -1,12 +1,14 @@
 // What a voice's control register decides for as long as it is not written: worked out once, ahead of a loop, which then
 // asks on every clock for these names and for nothing else of the register.
+#![tactic(auto)]
+
 ghost use Rattle.std.specs.Prelude.{◌≡◌};
 ghost use Rattle.wiring.specs.Wiring.{high as Wiring·high, wired, rings_of, feeds_of, pulse_of, joined_at, code_of, loaded_of, fed_back_of, pulls_down_of};
 
 use noise::Noise;
 use oscillator::{Control, Tone, WaveformSelect};
 
-#[derive(Drop)]
+#[derive(Clone, Copy)]
 pub struct Wiring {
     pub selection: u8,
     // no waveform is selected, or two and more are

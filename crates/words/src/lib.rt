@@ -1,4 +1,6 @@
 // Numbers in bytes, little endian (document 01, 'Score and program'). A number whose bytes are not all there is 0.
+#![tactic(auto)]
+
 ghost use Rattle.std.specs.Prelude.{◌≡◌, ◌+◌, leb, length};
 ghost use Rattle.words.specs.Words.{number_at};
 

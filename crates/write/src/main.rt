@@ -1,6 +1,8 @@
 // Makes the score of a text of fields, which stands on standard input: write [SIZE], SIZE being the length of the
 // buffer that the writer is lent, 65,536 if none is given. What the first refused field is answered, or which line is
 // no field, is told alone.
+#![tactic(auto)]
+
 use script::LineRead;
 use writer::{Appended, Writer};
 
@@ -59,7 +61,7 @@ fn write_within(text: &[u8], room: usize, out: &mut [u8]) {
     write_text(text, &mut out[..room]);
 }
 
-#[derive(Drop)]
+#[derive(Clone, Copy)]
 enum Asked {
     Room(usize),
     Unclear,

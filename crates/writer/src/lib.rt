@@ -1,5 +1,7 @@
 // The score's writer (document 02, 'Write scores from the tracker'): a field a call, appended to a lent buffer. No room
 // is kept for the end, which takes 7 bytes: that is the caller's care.
+#![tactic(auto)]
+
 ghost use Rattle.std.specs.Prelude.{◌≡◌, ◌-◌, length};
 ghost use Rattle.listing.specs.Text.{Put};
 ghost use Rattle.score.specs.Fields.{written};
@@ -9,7 +11,7 @@ use refusals::{Refusal, Refused};
 use score::{Admitted, Field, Order, What};
 
 // The place reached, the order that the next field meets, and whether the end was written.
-#[derive(Drop)]
+#[derive(Clone, Copy)]
 pub struct Writer {
     pub at: usize,
     pub order: Order,
@@ -17,7 +19,7 @@ pub struct Writer {
 }
 
 // The writer after a field that was taken; a refused call leaves the writer that it was made with.
-#[derive(Drop)]
+#[derive(Clone, Copy)]
 pub enum Appended {
     Next(Writer),
     Refused(Refused),

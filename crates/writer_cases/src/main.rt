@@ -3,6 +3,8 @@
 // The lists are made by tools/oracle: cargo run --release -- list writer_lists, and list writer_answers
 // A list: the buffer's length (4 bytes), the place (8), the order's two stamps (4 each), whether the end was written,
 // whether the score is to be played, the number of fields (2); a field in 7 bytes: its tag, stamp (4), address, value.
+#![tactic(auto)]
+
 use score::{Field, Order, What};
 use writer::{Appended, Writer};
 
