@@ -74,8 +74,8 @@ fn replay(list: &[u8]) -> Tally {
     tally
 }
 
-fn main() {
+fn main(rt: HostRuntime) {
     let mut list = [0u8; 65536];
-    let n = cases::load(b"bus", &mut list);
+    let n = cases::load(&rt, b"bus", &mut list);
     cases::report(b"bus", replay(&list[..n]));
 }

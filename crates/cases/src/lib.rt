@@ -8,6 +8,9 @@ ghost use Rattle.cases.specs.Answers.{mixed as Answers·mixed, refusal as Answer
 ghost use Rattle.cases.specs.Tally.{none, counted};
 
 use refusals::Refused;
+use std::fs::File;
+use std::io::Read;
+use std::{fs, str};
 
 #[derive(Clone, Copy)]
 pub struct Tally {
@@ -71,19 +74,48 @@ pub fn refusal(r: Refused) -> u64
     ((refusals::number(why) as u64) << 32) | (r.place as u64)
 }
 
-// Reads a file of the program's folder, as far as there is room; gives the number of bytes, 0 where it cannot be
-// opened.
-pub fn load(path: &[u8], list: &mut [u8]) -> usize
+// Reads until there is no room left, the file ends or a read fails; gives the number of bytes.
+pub fn read_full(file: &mut File, list: &mut [u8]) -> usize
     ensures { IsPrefixLen result list.new }
 {
-    let file = os::open_read(path);
-    if file < 0 {
-        os::fail(path);
-        return 0;
+    let mut done: usize = 0;
+    while done < list.len() {
+        match file.read(&mut list[done..]) {
+            Ok(n) => {
+                if n == 0 {
+                    break;
+                }
+                done += n;
+            }
+            Err(_) => break,
+        }
     }
-    let n = io::read_full(file, list);
-    libc::close(file);
-    n
+    done
+}
+
+// Opens a file of the program's folder. Where that fails it says so on standard error, and gives none.
+pub fn open(rt: &HostRuntime, path: &[u8]) -> Option<File> {
+    let Ok(name) = str::from_utf8(path) else {
+        return None;
+    };
+    match fs::open(rt, name) {
+        Ok(file) => Some(file),
+        Err(error) => {
+            let _told = eprintln!(rt; "{name}: {error}");
+            None
+        }
+    }
+}
+
+// Reads a file of the program's folder, as far as there is room; gives the number of bytes, 0 where it cannot be
+// opened.
+pub fn load(rt: &HostRuntime, path: &[u8], list: &mut [u8]) -> usize
+    ensures { IsPrefixLen result list.new }
+{
+    match open(rt, path) {
+        Some(mut file) => read_full(&mut file, list),
+        None => 0,
+    }
 }
 
 pub fn report(name: &[u8], t: Tally)

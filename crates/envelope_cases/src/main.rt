@@ -158,10 +158,10 @@ fn replay_rises(list: &[u8]) -> Tally {
     tally
 }
 
-fn main() {
+fn main(rt: HostRuntime) {
     let mut list = [0u8; 65536];
-    let n = cases::load(b"envelope", &mut list);
+    let n = cases::load(&rt, b"envelope", &mut list);
     cases::report(b"envelope", replay_envelope(&list[..n]));
-    let n = cases::load(b"rises", &mut list);
+    let n = cases::load(&rt, b"rises", &mut list);
     cases::report(b"rises", replay_rises(&list[..n]));
 }

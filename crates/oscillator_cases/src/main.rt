@@ -313,10 +313,10 @@ fn replay(calls: &[u8], states: &[u8]) -> Tally {
     tally
 }
 
-fn main() {
+fn main(rt: HostRuntime) {
     let mut calls = [0u8; 65536];
     let mut states = [0u8; 65536];
-    let n = cases::load(b"calls", &mut calls);
-    let m = cases::load(b"states", &mut states);
+    let n = cases::load(&rt, b"calls", &mut calls);
+    let m = cases::load(&rt, b"states", &mut states);
     cases::report(b"oscillator", replay(&calls[..n], &states[..m]));
 }

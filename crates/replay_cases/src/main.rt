@@ -5,13 +5,15 @@
 
 ghost use Rattle.io.specs.Counts.{IsPrefixLen};
 
-fn read_score(file: i32, length: usize, score: &mut [u8]) -> usize
+use std::fs::File;
+
+fn read_score(file: &mut File, length: usize, score: &mut [u8]) -> usize
     ensures { IsPrefixLen result score.new }
 {
     if score.len() < length {
         return 0;
     }
-    io::read_full(file, &mut score[..length])
+    cases::read_full(file, &mut score[..length])
 }
 
 fn print_score(number: u64, score: &[u8], pack: &[u16]) {
@@ -21,12 +23,12 @@ fn print_score(number: u64, score: &[u8], pack: &[u16]) {
     printer::print_listing(1, score, pack);
 }
 
-fn replay(file: i32, pack: &[u16]) {
+fn replay(file: &mut File, pack: &[u16]) {
     let mut head = [0u8; 4];
     let mut score = [0u8; 65537];
     let mut number: u64 = 0;
     while number < 65536 {
-        let got = io::read_full(file, &mut head);
+        let got = cases::read_full(file, &mut head);
         if got < 4 {
             return;
         }
@@ -37,14 +39,11 @@ fn replay(file: i32, pack: &[u16]) {
     }
 }
 
-fn main() {
-    let file = os::open_read(b"scores");
-    if file < 0 {
-        os::fail(b"scores");
+fn main(rt: HostRuntime) {
+    let Some(mut file) = cases::open(&rt, b"scores") else {
         return;
-    }
+    };
     let mut pack = [0u16; pack::LENGTH];
     pack::fill(&mut pack);
-    replay(file, &pack);
-    libc::close(file);
+    replay(&mut file, &pack);
 }

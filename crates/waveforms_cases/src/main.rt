@@ -164,11 +164,11 @@ fn replay_settling(list: &[u8]) -> Tally {
     tally
 }
 
-fn main() {
+fn main(rt: HostRuntime) {
     let mut list = [0u8; 65536];
     let mut table = [0u16; 4097];
-    let n = cases::load(b"waveforms", &mut list);
+    let n = cases::load(&rt, b"waveforms", &mut list);
     cases::report(b"waveforms", replay_waveforms(&list[..n], &mut table));
-    let n = cases::load(b"settling", &mut list);
+    let n = cases::load(&rt, b"settling", &mut list);
     cases::report(b"settling", replay_settling(&list[..n]));
 }

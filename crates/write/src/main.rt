@@ -4,6 +4,8 @@
 #![tactic(auto)]
 
 use script::LineRead;
+use std::env;
+use std::io::ErrorKind;
 use writer::{Appended, Writer};
 
 // The most bytes that a score has: a longer buffer makes no other score.
@@ -67,22 +69,30 @@ enum Asked {
     Unclear,
 }
 
-fn arguments() -> Asked {
-    let words = os::arg_count();
-    if words < 2 {
-        return Asked::Room(MOST);
+// What the words after the program's name ask for. Words that are no text are unclear, too.
+fn arguments(rt: &HostRuntime) -> std::io::Result<Asked> {
+    let mut words = match env::args(rt) {
+        Ok(words) => words,
+        Err(error) => {
+            if error.kind() == ErrorKind::InvalidData {
+                return Ok(Asked::Unclear);
+            }
+            return Err(error);
+        }
+    };
+    let _name = words.next();
+    let Some(word) = words.next() else {
+        return Ok(Asked::Room(MOST));
+    };
+    let size = script::number_at(word.as_bytes(), 0, 0xffff_ffff);
+    if words.next().is_none() && 0 < word.len() && size.next == word.len() {
+        return Ok(Asked::Room(size.value as usize));
     }
-    let mut word = [0u8; 16];
-    let n = os::arg(1, &mut word);
-    let size = script::number_at(&word, 0, 0xffff_ffff);
-    if words == 2 && 0 < n && size.next == n {
-        return Asked::Room(size.value as usize);
-    }
-    Asked::Unclear
+    Ok(Asked::Unclear)
 }
 
-fn main() {
-    match arguments() {
+fn main(rt: HostRuntime) -> std::io::Result<()> {
+    match arguments(&rt)? {
         Asked::Unclear => {
             io::write_all(2, b"usage: write [SIZE] < TEXT\n");
         }
@@ -93,4 +103,5 @@ fn main() {
             write_within(&text[..n], room, &mut out);
         }
     }
+    Ok(())
 }
