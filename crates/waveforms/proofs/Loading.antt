@@ -1,5 +1,5 @@
--- Document 01, 'Line loading': the result has no line that its input lacks. It is a code of twelve bits, turns on those
--- of its input alone, and settled 0 is 0. For every selection and every value. Assumes nothing.
+-- Document 01, 'Line loading': the result has no line that its input lacks. It is a code of twelve bits, turns on
+-- those of its input alone, and settled 0 is 0. For every selection and every value. Assumes nothing.
 use mathlib.Core.Path.{◌≡◌, refl, ap, sym, subst⁻¹, ◌∙◌}
 use mathlib.Core.Bool.{Bool, true, false, cond, not}
 use mathlib.Core.List.{List}
