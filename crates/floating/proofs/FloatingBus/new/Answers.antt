@@ -3,12 +3,8 @@ use Rattle.std.proofs.Common.{refl}
 use Rattle.laws.specs.Build.{build}
 use Rattle.laws.specs.Charges.{charged}
 use Rattle.floating.specs.Floating.{fresh}
-use Rattle.floating.proofs.FloatingBus.new.Statement.{statement}
-use Rattle.floating.proofs.FloatingBus.new.Tie as tie
+use Rattle.floating.proofs.FloatingBus.new.Goals as goal
 
-returns : tie.Need-returns
+pub returns : goal.returns
 unfolding fresh charged build
 returns c = refl
-
-pub new_spec : {M : Type 1} → statement M
-new_spec = tie.close (tie.spec returns)
