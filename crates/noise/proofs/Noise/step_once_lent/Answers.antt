@@ -1,5 +1,5 @@
--- `Noise::step_once_lent` is a chip's clock of numbers and lent charges: they relax in test, by one step where one is due
--- or more, else shift if due and capture a rise.
+-- `Noise::step_once_lent` is a chip's clock of numbers and lent charges: they relax in test, by one step where one is
+-- due or more, else shift if due and capture a rise.
 use Rattle.noise.specs.Noise.{clocked, stepped_by}
 use Rattle.noise.specs.declared.NoiseGenerator.{NoiseGenerator}
 use Rattle.std.proofs.Common.{ap, ◌∙◌}

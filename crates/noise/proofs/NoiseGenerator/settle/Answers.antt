@@ -1,4 +1,5 @@
--- `NoiseGenerator::settle` takes relaxed stages over; if one was marked they show, and are captured if no shift is set.
+-- `NoiseGenerator::settle` takes relaxed stages over; if one was marked they show, and are captured if no shift is
+-- set.
 use Rattle.std.proofs.Common.{eq-eqb, ne_eqb}
 use Rattle.noise.specs.Noise.{settled_to, takes}
 use Rattle.noise.proofs.NoiseGenerator.settle.Goals as goal

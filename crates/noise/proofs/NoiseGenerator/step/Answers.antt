@@ -1,4 +1,5 @@
--- `NoiseGenerator::step` is a clock of the register: in test it relaxes, else the shift lands and then a rise captures.
+-- `NoiseGenerator::step` is a clock of the register: in test it relaxes, else the shift lands and then a rise
+-- captures.
 use Rattle.noise.specs.Noise.{stepped_by}
 use Rattle.noise.proofs.NoiseGenerator.step.Goals as goal
 
