@@ -3,7 +3,7 @@
 -- leak that makes one step where one is due at most. Assumes nothing.
 use Rattle.std.proofs.Common.{◌≡◌, ℕ, zero, suc, ◌+◌, ◌-◌, ◌*◌, ◌/◌, ◌%◌, ◌^◌, ◌<◌, ◌≤◌, Bool, true, false, cond, eqb, leb, List, [], ◌∷◌, get_or, sym, refl, ap, ◌∙◌, ap₂, mod-lt, one-mul, arith, leb→le, pow_pos, ne_eqb, eqb-true, le-leb}
 use borrow.Author.Tests.{lt-leb, eqb-false}
-use mathlib.Core.Bool.{and_false}
+use mathlib.Core.Bool.{and-false}
 use lib.Bits.{bit_or, or_shifted_r}
 use lib.Pow.{mod-pow-add}
 use Rattle.laws.proofs.Build.{build_at, build_same}
@@ -112,7 +112,7 @@ module _ (w c : ℕ) (some : w ≡ 0 → ⊥) (small : w < 4096) (early : c < 2 
   -- before the next leak nothing changes
   waits : (j cycle : ℕ) → cycle < c + 1145332 + 8192 * j → sampled_once (stage w c j) cycle ≡ stage w c j
   unfolding sampled_once leaks stage
-  waits j cycle h = simp (ne_eqb w 0 some, lt-leb (c + 1145332 + 8192 * j) cycle h, and_false (leb (c + 1137140) cycle))
+  waits j cycle h = simp (ne_eqb w 0 some, lt-leb (c + 1145332 + 8192 * j) cycle h, and-false (leb (c + 1137140) cycle))
 
   -- the leak itself
   leaked : (j : ℕ) → sampled_once (stage w c j) (c + 1145332 + 8192 * j) ≡ leaked_to (stage w c j).numbers (row w (charge_after (suc j))) ((c + 1145332 + 8192 * j + 8192) % 2 ^ 64)

@@ -1,6 +1,6 @@
--- Where one leak step is due at most, document 01's rule makes the one step that a chip's makes (`sample_once`). Lines
--- whose next leak lies ahead of a cycle have one due at most on the next clock (`ahead_one`), and captures, samples and
--- resets leave it ahead. Assumes nothing.
+-- Where one leak step is due at most, document 01's rule makes the one step that a chip's makes (`sample_once`).
+-- Lines whose next leak lies ahead of a cycle have one due at most on the next clock (`ahead_one`), and captures,
+-- samples and resets leave it ahead. Assumes nothing.
 use Rattle.std.proofs.Common.{◌≡◌, ℕ, ◌-◌, ◌/◌, ◌^◌, ◌<◌, ◌≤◌, Bool, true, false, not, eqb, leb, sym, refl, ap, ◌∙◌, true≢false, arith, eq-eqb, ne_eqb, le-leb, leb-false, leb-true}
 use borrow.Author.Tests.{eqb-false, not-true}
 use Rattle.laws.proofs.Bools.{and_left, and_right}

@@ -1,6 +1,6 @@
 -- The floating lines: document 01, 'Oscillator'; FloatingBus of oscillator.rs. Their numbers (Floating) stand apart
 -- from the twelve charges.
-use Rattle.std.specs.Prelude.{◌≡◌, ℕ, zero, suc, ◌+◌, ◌-◌, ◌*◌, ◌/◌, ◌%◌, ◌<◌, ◌≤◌, max, Bool, cond, not, ◌&&◌, List, ◌==◌, ◌≢◌, nat_le, slice_index}
+use Rattle.std.specs.Prelude.{ℕ, zero, suc, ◌+◌, ◌-◌, ◌*◌, ◌/◌, ◌%◌, ◌<◌, ◌≤◌, max, Bool, cond, not, ◌&&◌, List, ◌==◌, ◌≢◌, nat_le, slice_index}
 use Rattle.laws.specs.Build.{build}
 use Rattle.laws.specs.Times.{times}
 use Rattle.laws.specs.Cycle.{never, after}

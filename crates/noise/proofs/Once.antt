@@ -1,6 +1,6 @@
--- Where one leak step is due at most, document 01's rule makes the one step that a chip's makes (`relax_once`). A register
--- whose next leak lies ahead of a cycle has one due at most on the next clock (`ahead_one`); test entered and a clock in
--- test leave it ahead, and a clock out of test leaves it alone. Assumes nothing.
+-- Where one leak step is due at most, document 01's rule makes the one step that a chip's makes (`relax_once`). A
+-- register whose next leak lies ahead of a cycle has one due at most on the next clock (`ahead_one`); test entered
+-- and a clock in test leave it ahead, and a clock out of test leaves it alone. Assumes nothing.
 use Rattle.std.proofs.Common.{◌≡◌, ℕ, ◌-◌, ◌/◌, ◌^◌, ◌<◌, ◌≤◌, Bool, true, false, not, ◌&&◌, eqb, leb, refl, ap, true≢false, arith, eqb-true, leb-false, leb-true}
 use Rattle.laws.proofs.Bools.{and_right}
 use Rattle.laws.proofs.Cond.{by_test, either, one_at_most}

@@ -1,5 +1,5 @@
--- Where `step_due` is false, a clock leaves the register as it is (`step_still`), whichever way it recovers in test, if
--- that way does nothing before a leak is due; `relaxed_once` is such a way (`relax_still`). Assumes nothing.
+-- Where `step_due` is false, a clock leaves the register as it is (`step_still`), whichever way it recovers in test,
+-- if that way does nothing before a leak is due; `relaxed_once` is such a way (`relax_still`). Assumes nothing.
 use Rattle.std.proofs.Common.{◌≡◌, ℕ, Bool, true, false}
 use Rattle.laws.proofs.Bools.{or_left, or_right}
 use Rattle.noise.specs.Noise.{captures, clocked, come, transfers, transferred, relaxed_once, stepped_by}

@@ -2,7 +2,7 @@
 -- Its numbers (Noise) stand apart from the two lists of charges.
 -- 'Capture, test entry and exit, charge and pull-down follow document 000 rule for rule, with wrapping on the 64-bit
 -- cycle.' What a register shows is its `visible` (output).
-use Rattle.std.specs.Prelude.{ℕ, zero, suc, ◌+◌, ◌-◌, ◌*◌, ◌/◌, ◌%◌, ◌^◌, ◌<◌, min, max, Bool, true, false, cond, not, ◌&&◌, List, [], ◌∷◌, ◌++◌, drop, set, ◌==◌, bit_and, bit_or, bit_xor, nat_le, nat_lt, slice_index, slice_set}
+use Rattle.std.specs.Prelude.{ℕ, zero, suc, ◌+◌, ◌-◌, ◌*◌, ◌/◌, ◌%◌, ◌^◌, ◌<◌, min, max, Bool, true, false, cond, not, ◌&&◌, List, [], ◌∷◌, ◌++◌, drop, ◌==◌, bit_and, bit_or, bit_xor, nat_le, nat_lt, slice_index, slice_set}
 use Rattle.laws.specs.Times.{times}
 use Rattle.laws.specs.Cycle.{never, after}
 use Rattle.laws.specs.Charges.{charged, high_to}

@@ -1,0 +1,12 @@
+-- `leak_steps` makes exactly so many leak steps of the twelve charges, one after the other.
+use Rattle.std.proofs.Common.{refl, add-one, rules}
+use Rattle.laws.specs.Times.{times}
+use Rattle.floating.proofs.leak_steps.Goals as goal
+
+pub loop-step-init : goal.loop-step-init
+unfolding times
+loop-step-init c = (search rules, refl)
+
+pub loop-step-preserved : goal.loop-step-preserved
+unfolding times
+loop-step-preserved c = (search rules, rw add-one (simp (c.leak_step-next.ensures, c.loop-step.invariant.1)))

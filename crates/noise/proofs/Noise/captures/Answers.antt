@@ -1,0 +1,13 @@
+-- `Noise::captures` is true exactly for a rise of phase bit 19 while no shift is under way.
+use Rattle.std.proofs.Common.{sym, ◌∙◌, eq-eqb, ne_eqb}
+use Rattle.laws.proofs.Masks.{and_bit}
+use Rattle.noise.specs.Noise.{captures}
+use Rattle.noise.proofs.Noise.captures.Goals as goal
+
+pub returns-then-rising_bits-eq0 : goal.returns-then-rising_bits-eq0
+unfolding captures
+returns-then-rising_bits-eq0 c = simp (sym (and_bit c.args.rising_bits 19) ∙ eq-eqb _ _ c.if-rising_bits-eq0.true)
+
+pub returns : goal.returns
+unfolding captures
+returns c = simp (sym (and_bit c.args.rising_bits 19) ∙ ne_eqb _ _ c.if-rising_bits-eq0.false)
