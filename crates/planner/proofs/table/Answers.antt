@@ -3,12 +3,8 @@ use mathlib.Core.Path.{refl}
 use Rattle.envelope.specs.Envelope.{divisor_for}
 use Rattle.release.specs.Release.{in_force}
 use Rattle.planner.specs.Planner.{adds}
-use Rattle.planner.proofs.table.Statement.{statement}
-use Rattle.planner.proofs.table.Tie as tie
+use Rattle.planner.proofs.table.Goals as goal
 
-returns : tie.Need-returns
+pub returns : goal.returns
 unfolding adds in_force divisor_for
 returns c = refl
-
-pub table_spec : {M : Type 1} → statement M
-table_spec = tie.close (tie.spec returns)
