@@ -1,6 +1,5 @@
 // The score's reader (document 01, 'A form for each place': 'a reader that refers to its bytes and a place'). Its
-// functions are thin, since each is proved by a walk of its code; every other caller uses `read_field`, which has plain
-// parameters.
+// functions are thin: every other caller uses `read_field`, which has plain parameters.
 #![tactic(auto)]
 
 ghost use Rattle.std.specs.Prelude.{◌≡◌};
