@@ -1,4 +1,4 @@
--- `end_line_lem` puts the line `E clocks` at the buffer's start and gives its length.
+-- `end_line` puts the line `E clocks` at the buffer's start and gives its length.
 use native.Mathlib.Omega.{arith}
 use Rattle.listing.specs.Text.{end_line}
 use Rattle.listing.proofs.Joins.{then}
