@@ -1,0 +1,7 @@
+-- `Oscillator::at_phase` is a voice freshly made, but for its phase.
+use Rattle.oscillator.specs.Oscillator.{fresh}
+use Rattle.oscillator.proofs.Oscillator.at_phase.Goals as goal
+
+pub returns : goal.returns
+unfolding fresh
+returns c = simp (c.new-noise.ensures, c.new-bus.ensures)
