@@ -2,30 +2,25 @@
 -- text does (`line_ends`), so that what stands up to there is the field's line (`line_there`). Assumes nothing.
 use Prim.Native.Nat.{ℕ, zero, suc, ◌+◌, ◌-◌, ◌/◌, ◌≤◌, ◌<◌}
 use native.Mathlib.Omega.{arith}
-use mathlib.Core.Bool.{Bool, true, false}
+use mathlib.Core.Bool.{Bool, true, false, not}
+use Rattle.std.proofs.Common.{◌==◌}
 use mathlib.Core.List.{List, [], ◌∷◌, ◌++◌, append_assoc}
 use mathlib.Core.Path.{◌≡◌, refl, ap, sym, subst, ◌∙◌}
-use lib.Dec.{ltb, eqb}
+use lib.Dec.{ltb}
 use lib.ListN.{length, take, drop, length-append, length-drop}
 use lib.Seq.{take_at}
 use borrow.Author.Tests.{ne_eqb, lt-leb, ltb-true, ltb-false}
-use Rattle.bytes.specs.Bytes.{index_of, index_after}
+use Rattle.std.proofs.lemmas.List.Sums.{prefix_len-le-length}
 use Rattle.score.specs.declared.Field.{Field}
 use Rattle.score.specs.declared.What.{What}
 use Rattle.score.specs.declared.What.TheVariants.{Write, Read, Levels, Watch, End}
 use Rattle.listing.specs.Text.{line_feed, decimal, last_digit}
 use Rattle.listing.specs.FieldText.{spaced_number, word_of, operands, field_text, field_line}
 use Rattle.listing.proofs.Joins.{decimal_one, decimal_more}
-use Rattle.script.specs.Lines.{line_end, Fits, LineOf}
+use Rattle.script.specs.Lines.{index_of, line_end, Fits, LineOf}
 
-index_le : (b : ℕ) (l : List ℕ) → index_of b l ≤ length l
-unfolding index_of index_after
-index_le b [] = omega arith
-index_le b (x ∷ l) = go (eqb x b) (index_le b l)
-  where
-    go : (t : Bool) → index_of b l ≤ length l → index_after t (index_of b l) ≤ length (x ∷ l)
-    go true h = omega arith
-    go false h = omega arith
+pub index_le : (b : ℕ) (l : List ℕ) → index_of b l ≤ length l
+index_le b l = prefix_len-le-length (λ x. not (x == b)) l
 
 pub end_bounds : (text : List ℕ) (at : ℕ) → at < length text → (at ≤ line_end text at) × (line_end text at ≤ length text)
 unfolding line_end
@@ -41,9 +36,8 @@ plain_join [] ys p q = q
 plain_join (x ∷ xs) ys p q = (p.0, plain_join xs ys p.1 q)
 
 plain_index : (xs ys : List ℕ) → Plain xs → index_of 10 (xs ++ (10 ∷ ys)) ≡ length xs
-unfolding index_of index_after
 plain_index [] ys p = refl
-plain_index (x ∷ xs) ys p = simp (ne_eqb x 10 p.0) (ap suc (plain_index xs ys p.1))
+plain_index (x ∷ xs) ys p = simp (ne_eqb x 10 p.0) (omega (arith, plain_index xs ys p.1))
 
 plain_decimal : (k n : ℕ) → n < k → Plain (decimal n)
 plain_decimal zero n h = absurd (omega arith)

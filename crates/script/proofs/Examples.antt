@@ -1,7 +1,6 @@
 -- Numbers at a place, both sides of each edge; the ends of lines. Assumes nothing.
 use mathlib.Core.List.{[], ◌∷◌}
 use mathlib.Core.Path.{◌≡◌, refl}
-use Rattle.bytes.specs.Bytes.{index_of, index_after}
 use Rattle.script.specs.Numbers.{number, none, more, number_of, number_at}
 use Rattle.script.specs.Lines.{line_end}
 
@@ -23,5 +22,5 @@ pub ends
     × (line_end (120 ∷ 10 ∷ 121 ∷ []) 1 ≡ 1)
     × (line_end (120 ∷ 10 ∷ 121 ∷ []) 2 ≡ 3)
     × (line_end (120 ∷ 10 ∷ 121 ∷ []) 9 ≡ 3)
-unfolding line_end index_of index_after
+unfolding line_end
 ends = (refl, refl, refl, refl)

@@ -7,10 +7,9 @@ use mathlib.Core.List.{List, [], ◌∷◌, ◌++◌, append-nil}
 use mathlib.Core.Path.{◌≡◌, refl, ap, sym, ◌∙◌}
 use lib.Dec.{ltb, eqb}
 use lib.ListN.{length, take, drop, get_or, length-append, length-drop}
-use lib.Seq.{drop-drop, drop-append_seam, take_at, take-length, take-take}
+use lib.Seq.{drop-drop, drop-append_seam, take_at, take-take}
 use borrow.Author.Tests.{lt-ltb, le-ltb, le-leb, lt-leb}
 use Rattle.laws.proofs.Cond.{by_test, either}
-use Rattle.bytes.specs.Bytes.{index_of, slice}
 use Rattle.score.specs.declared.Field.{Field}
 use Rattle.score.specs.declared.What.{What}
 use Rattle.score.specs.declared.What.TheVariants.{Write, Read, Levels, Watch, End}
@@ -22,7 +21,7 @@ use Rattle.script.specs.declared.LineRead.{LineRead}
 use Rattle.script.specs.declared.LineRead.TheVariants.{Got, Other}
 use Rattle.script.specs.declared.Number.{Number}
 use Rattle.script.specs.Numbers.{is_digit, number, none, number_at, Stands}
-use Rattle.script.specs.Lines.{line_end, FitsWhat, Fits, LineOf, Reads, number_after, stamp_in, address_in, write_in, read_in, bare_in, meant, Decides}
+use Rattle.script.specs.Lines.{index_of, line_end, FitsWhat, Fits, LineOf, Reads, number_after, stamp_in, address_in, write_in, read_in, bare_in, meant, Decides}
 use Rattle.script.proofs.Numbers.{here, number_back, number_within}
 
 -- ---- the end of a line
@@ -32,9 +31,9 @@ module _ (text : List ℕ) (at : ℕ) where
   unfolding line_end
   end_past h = simp (le-leb (length text) at h)
 
-  pub end_within : at < length text → at + index_of 10 (slice at (length text) text) ≡ line_end text at
-  unfolding line_end slice
-  end_within h = simp (lt-leb (length text) at h, take-length text)
+  pub end_within : at < length text → at + index_of 10 (drop at text) ≡ line_end text at
+  unfolding line_end
+  end_within h = simp (lt-leb (length text) at h)
 
 -- ---- the numbers of a line
 

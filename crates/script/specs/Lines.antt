@@ -1,6 +1,6 @@
 -- The lines of a text, and the field whose line one is.
-use Rattle.std.specs.Prelude.{ℕ, ◌+◌, ◌^◌, ◌<◌, Bool, true, cond, List, ◌++◌, ◌≡◌, ltb, leb, eqb, length, get_or, drop}
-use Rattle.bytes.specs.Bytes.{index_of}
+use Rattle.std.specs.Prelude.{ℕ, ◌+◌, ◌^◌, ◌<◌, Bool, true, cond, List, ◌++◌, ◌≡◌, ◌==◌, ltb, leb, eqb, length, get_or, drop}
+use Rattle.std.specs.List.{position_or_len}
 use Rattle.score.specs.declared.Field.{Field}
 use Rattle.score.specs.declared.What.{What}
 use Rattle.score.specs.declared.What.TheVariants.{Write, Read, Levels, Watch, End}
@@ -11,6 +11,10 @@ use Rattle.script.specs.declared.LineRead.{LineRead}
 use Rattle.script.specs.declared.LineRead.TheVariants.{Got, Other}
 use Rattle.script.specs.declared.Number.{Number}
 use Rattle.script.specs.Numbers.{none, number_at}
+
+-- the index of the first b; the list's length where there is none
+abbrev pub index_of : ℕ → List ℕ → ℕ
+index_of b l = position_or_len (λ x. x == b) l
 
 -- the place of the first line feed, which is 10, at or after a place; the text's length where none is
 unfoldable pub line_end : List ℕ → ℕ → ℕ

@@ -86,7 +86,10 @@ pub fn line_end(text: &[u8], at: usize) -> usize
     if text.len() <= at {
         return text.len();
     }
-    bytes::scan::find(text, at, text.len(), b'\n')
+    match text[at..].iter().position(|b| *b == b'\n') {
+        Some(i) => at + i,
+        None => text.len(),
+    }
 }
 
 // The number after the one byte at a place, which in a field's line is a space.
