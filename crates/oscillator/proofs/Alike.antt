@@ -1,5 +1,5 @@
--- Ways that, where a tick looks, load a voice's codes alike and do the same to its noise register and floating lines tick
--- it alike (`tick_alike`): what an engine has to bring to be shown equal to another. Assumes nothing.
+-- Ways that, where a tick looks, load a voice's codes alike and do the same to its noise register and floating lines
+-- tick it alike (`tick_alike`): what an engine has to bring to be shown equal to another. Assumes nothing.
 use Rattle.std.proofs.Common.{◌≡◌, ℕ, ◌%◌, Bool, true, false, cond, sym, refl, ap, ◌∙◌}
 use Rattle.noise.specs.Noise.{stepped_by}
 use Rattle.oscillator.proofs.Parts.{tick_parts}

@@ -1,6 +1,6 @@
 -- One tick of the chip, by any ways, out of its parts, which a loop may hold apart; ways that tick each voice alike
--- tick the chip alike (`chip_alike`), any number of times (`ticks_alike`) and in any run of calls (`after_alike`); ticks
--- clock the bus, and nothing else in them moves it (`ticks_bus`). Assumes nothing.
+-- tick the chip alike (`chip_alike`), any number of times (`ticks_alike`) and in any run of calls (`after_alike`);
+-- ticks clock the bus, and nothing else in them moves it (`ticks_bus`). Assumes nothing.
 use mathlib.Core.Path.{◌≡◌, refl, ap, ap₂, sym, ◌∙◌}
 use mathlib.Core.Bool.{Bool, true, false, cond}
 use mathlib.Core.List.{List, [], ◌∷◌}
