@@ -12,7 +12,7 @@ test:
 
 # The bundled scores anew from their texts; `write`, which makes them, is proved and built first.
 scores:
-	rt check write
+	sh tools/programs.sh write
 	sh tools/score.sh scores/first_light.txt > scores/first_light
 	sh tools/score.sh scores/fading.txt > scores/fading
 

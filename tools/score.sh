@@ -16,7 +16,7 @@ export LC_ALL=C
 [ $# -eq 1 ] || { echo "usage: sh tools/score.sh TEXT > SCORE" >&2; exit 2; }
 text=$1
 root=$(dirname "$0")/..
-[ -x "$root/target/bin/write" ] || (cd "$root" && rt check write) >&2
+[ -x "$root/target/bin/write" ] || sh "$root/tools/programs.sh" write >&2
 
 # what `write` takes: a field a line, all decimal
 fields=$(awk '
