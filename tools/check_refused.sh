@@ -1,18 +1,17 @@
 #!/bin/sh
-# The must-fail edits against the logs that `rt ci` or `rt must-fail` left of them in target/must-fail. An edit names
-# in its head what it lies about, '# refuses: a, b' on one line or more, and each must be refused at a need of its
-# own. Then every public function of docs/CONTRACTS.md must be refused so by an edit of its own crate, the exceptions
-# there apart.
+# The must-fail edits against the logs that tools/try_edits.py left of them in target/must-fail. An edit names in its
+# head what it lies about, '# refuses: a, b' on one line or more, and each must be refused at a goal of its own. Then
+# every public function of docs/CONTRACTS.md must be refused so by an edit of its own crate, the exceptions there apart.
 #
 #   sh tools/check_refused.sh [CRATE...]     (no crate: all of them)
 #
-#   Type::method, function   an error in its own Proof.antt; where it has none, '`search` does not close' a need of it
-#   function by law          where the need stands in a law of the crate that the function's Proof.antt cites, itself or
+#   Type::method, function   an error in its own Answers.antt or Invariants.antt, or '`search` did not prove' a goal of it
+#   function by law          where the goal stands in a law of the crate that the function's answers cite, themselves or
 #                            through other laws: an error in that law
 #   law name                 an error in the definition of that name in the crate's proofs/*.antt
 #
-# An error doesn't count that says no more than that something else is refused ('was not admitted', 'it calls'). Nor
-# does a Proof.antt count with an error that says that it no longer fits the code: a need, a field or a name that
+# An error doesn't count that says no more than that something else is refused ('was not admitted', 'was rejected', 'it
+# calls'). Nor do answers count with an error that says that they no longer fit the code: a goal, a field or a name that
 # isn't there, a fact of another kind (an equation where an inequality was).
 set -eu
 cd "$(dirname "$0")/.."
@@ -42,31 +41,33 @@ function marked(text, phrase,    at) {
   text = substr(text, at + length(phrase) + 1)
   return substr(text, 1, index(text "`", "`") - 1)
 }
-function judged(    what, name, want, have) {
+function judged(    what, name, want, have, on, who, those, n, i) {
   if (error == "") return
   what = "law"; name = marked(error, "")
-  if (sub(/\/Proof\.antt$/, "", file)) {
+  if (sub(/\/(Answers|Invariants)\.antt$/, "", file)) {
     what = "fn"; name = file
     gsub(/\+/, "", name); gsub(/\//, "::", name)
   }
   gsub(/is not in scope here, so what is shown/, "", error) # a remark on a type as it is printed
   want = kind(marked(error, "expected type ")); have = kind(marked(error, "but this has type "))
-  if (match(error, /`[^`]*` was not admitted/)) print "waits", what ":" name, substr(error, RSTART + 1, RLENGTH - 19)
-  else if (error ~ /has no field|not in scope|has no `Need-|can be named from here|expected type `[^ `]*(tie|lts)\.Need-|cannot find/ \
-    || want != "" && have != "" && want != have) print "misfit", what, name
+  if (match(error, /[0-9]+ declarations? that depends? on `[^`]*`, which was (not admitted|rejected), (was|were) not checked: /)) {
+    on = marked(error, " on "); who = substr(error, RSTART + RLENGTH)
+    sub(/\n.*/, "", who); gsub(/ and /, ", ", who)
+    if (what == "fn") print "waits", "fn:" name, on
+    else { n = split(who, those, /, */); for (i = 1; i <= n; i++) print "waits", "law:" those[i], on }
+  }
+  else if (error ~ /has no field|not in scope|has no `|can be named from here|cannot find/ || want != "" && have != "" && want != have) print "misfit", what, name
   else print what, name
   error = ""
 }
 /^  / { if (error != "") error = error "\n" $0; next }
 { judged() }
-/^[^ ]*\.antt:[0-9]+:[0-9]+: error: `/ {
-  at = index($0, home)
-  if (!at) next
-  file = substr($0, at + length(home))
+/^\.\/proofs\/[^ ]*\.antt:[0-9]+:[0-9]+: error: / {
+  file = substr($0, length("./proofs/") + 1)
   error = file
-  sub(/:.*/, "", file); sub(/^[^`]*/, "", error)
+  sub(/:.*/, "", file); sub(/^[^ ]* error: /, "", error)
 }
-/^fn [^ ]*: no proof: .*`search` does not close/ {
+/^fn [^ ]*: (no proof|not proved).*`search` did not prove/ {
   name = $2
   sub(/^[^:]*::/, "", name); sub(/:$/, "", name)
   print "fn", name
@@ -115,10 +116,10 @@ for edit in crates/*/must-fail/*.edit; do
   sed -n '/^file:/q; s/^# refuses: *//p' "$edit" | tr ',' '\n' | sed 's/^ *//; s/ *$//; /^$/d' > "$room/named"
   [ -s "$room/named" ] || complain "$one: its head has no line '# refuses: ...'"
   if [ ! -f "target/must-fail/$one/.log" ]; then
-    complain "$one: no log in target/must-fail"
+    complain "$one: no log in target/must-fail: python3 tools/try_edits.py"
     continue
   fi
-  awk -v home="/must-fail/$one/proofs/" -f "$room/read.awk" "target/must-fail/$one/.log" | sort -u > "$room/said"
+  awk -f "$room/read.awk" "target/must-fail/$one/.log" | sort -u > "$room/said"
   while IFS= read -r name; do
     case $name in
     'law '*)
