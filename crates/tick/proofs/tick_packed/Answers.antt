@@ -1,4 +1,5 @@
--- `tick_packed` is one clock of the chip by the rules, with the pack's entries; or it refuses with 15, the chip as it was.
+-- `tick_packed` is one clock of the chip by the rules, with the pack's entries; or it refuses with 15, the chip as it
+-- was.
 use Rattle.std.proofs.Common.{◌≡◌, length, ap, ◌∙◌, arith, eq-eqb, ne_eqb}
 use Rattle.pack.specs.Pack.{pack_length}
 use Rattle.pack.proofs.Engines.{over_packed}
