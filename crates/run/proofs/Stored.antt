@@ -1,5 +1,6 @@
--- What a loop stores, one clock after the other, is what a rendering leaves (`stored_rendered`): the i-th six are those of
--- the i-th tick (`rendered_six`), and past the last whole clock all is as it was (`rendered_past`). Assumes nothing.
+-- What a loop stores, one clock after the other, is what a rendering leaves (`stored_rendered`): the i-th six are
+-- those of the i-th tick (`rendered_six`), and past the last whole clock all is as it was (`rendered_past`). Assumes
+-- nothing.
 use Rattle.std.proofs.Common.{◌≡◌, ℕ, zero, suc, ◌+◌, ◌*◌, ◌/◌, ◌%◌, ◌<◌, ◌≤◌, Bool, true, false, cond, ltb, List, [], ◌∷◌, ◌++◌, length, get_or, take, drop, sym, refl, ap, ◌∙◌, subst, ap₂, append_assoc, le_refl, add-one, arith, drop-drop, take_at, drop_at, le-ltb, lt-ltb}
 use lib.ListN.{get_or-append}
 use lib.Seq.{sets, length-sets, sets-eq}
