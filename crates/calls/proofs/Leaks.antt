@@ -1,6 +1,6 @@
--- Fewer than 2^63 clocks after a chip was made or reset, one leak step is due at most in any voice, for any run of calls
--- (`one_due`), so that a tick is document 01's, with its loops (`tick_as_01`), and so are any calls (`after_as_01`).
--- Assumes nothing.
+-- Fewer than 2^63 clocks after a chip was made or reset, one leak step is due at most in any voice, for any run of
+-- calls (`one_due`), so that a tick is document 01's, with its loops (`tick_as_01`), and so are any calls
+-- (`after_as_01`). Assumes nothing.
 use mathlib.Core.Path.{◌≡◌, refl, ap, sym, subst, ◌∙◌}
 use mathlib.Core.Bool.{Bool, true, false, true≢false, false≢true}
 use mathlib.Core.List.{List, [], ◌∷◌}

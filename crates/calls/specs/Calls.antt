@@ -115,7 +115,8 @@ pub data Last : List Call → Type 0 where
 -- ---- what the laws say
 
 -- The runs of a voice's envelope of which demand 3 (`Demand3`), the rise (`Rise`, `Starts`) and the sustained level
--- (`HoldsTop`) speak, in a chip: whatever leads on from it sparing the voice, calls or `run` or both. Only the ticks count
+-- (`HoldsTop`) speak, in a chip: whatever leads on from it sparing the voice, calls or `run` or both. Only the ticks
+-- count
 abbrev pub sparing : Which → Mos6581 → Runs
 sparing w c = record {
   Run = (d : Mos6581) × (n : ℕ) × Leads (spares w) c d n;

@@ -1,5 +1,5 @@
--- A run clocks the panel's bus and nothing else in it moves it; a leap ends at the stamp or on the first clock that may
--- lose bits: no clock before its last loses one (`leap_quiet`), and what it tells is what that last one lost
+-- A run clocks the panel's bus and nothing else in it moves it; a leap ends at the stamp or on the first clock that
+-- may lose bits: no clock before its last loses one (`leap_quiet`), and what it tells is what that last one lost
 -- (`leap_lost`). Assumes nothing.
 use Prim.Native.Nat.{ℕ, zero, suc, ◌+◌, ◌-◌, ◌≤◌, ◌<◌, min, max}
 use native.Mathlib.Nat.{add-zero}

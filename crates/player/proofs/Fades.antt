@@ -101,8 +101,8 @@ module _ (w : Ways) (stamp : ℕ) (p : Panel) where
   unfolding watched_by
   watched_fades e = ap (λ (t : Bool). cond t (fades_by w (stamp - p.clock) p) []) e
 
--- on the way from p to a stamp the panel is q: `told` are the lines so far, `at` bytes, at the start of l, which now is
--- m; no bit that is left makes more than a line
+-- on the way from p to a stamp the panel is q: `told` are the lines so far, `at` bytes, at the start of l, which now
+-- is m; no bit that is left makes more than a line
 pub record Watches (w : Ways) (stamp : ℕ) (p : Panel) (l : List ℕ) (q : Panel) (at : ℕ) (m : List ℕ) : Type 0 where
   pub told : List ℕ
   pub whole : told ++ fades_by w (stamp - q.clock) q ≡ fades_by w (stamp - p.clock) p
