@@ -1,5 +1,5 @@
--- By any ways, fills from the start of a score, joined, are its listing, and no fill stands still; ways that list alike
--- hand on alike. Assumes nothing.
+-- By any ways, fills from the start of a score, joined, are its listing, and no fill stands still; ways that list
+-- alike hand on alike. Assumes nothing.
 use Prim.Native.Nat.{ℕ, zero, suc, ◌+◌, ◌≤◌, ◌<◌}
 use native.Mathlib.Omega.{arith}
 use mathlib.Core.Bool.{true, false}
