@@ -52,7 +52,7 @@ function judged(    what, name, want, have, on, who, those, n, i) {
   want = kind(marked(error, "expected type ")); have = kind(marked(error, "but this has type "))
   if (match(error, /[0-9]+ declarations? that depends? on `[^`]*`, which was (not admitted|rejected), (was|were) not checked: /)) {
     on = marked(error, " on "); who = substr(error, RSTART + RLENGTH)
-    sub(/\n.*/, "", who); gsub(/ and /, ", ", who)
+    sub(/\n.*/, "", who); gsub(/ \(via [^()]*\)/, "", who); gsub(/ and /, ", ", who)
     if (what == "fn") print "waits", "fn:" name, on
     else { n = split(who, those, /, */); for (i = 1; i <= n; i++) print "waits", "law:" those[i], on }
   }

@@ -93,9 +93,12 @@ pub fn read_full(file: &mut File, list: &mut [u8]) -> usize
     done
 }
 
-// Opens a file of the program's folder. Where that fails it says so on standard error, and gives none.
+// Opens a file of the program's folder. Where that fails it says so on standard error, and gives none. A name that is no
+// text names no file: std takes a file's name as a text.
 pub fn open(rt: &HostRuntime, path: &[u8]) -> Option<File> {
     let Ok(name) = str::from_utf8(path) else {
+        io::write_all(2, path);
+        io::write_all(2, b": the name is no text\n");
         return None;
     };
     match fs::open(rt, name) {
