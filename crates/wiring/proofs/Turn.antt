@@ -4,7 +4,10 @@ use mathlib.Core.Path.{◌≡◌, refl, ap, sym, subst, ◌∙◌}
 use mathlib.Core.Bool.{Bool, true, false, ◌&&◌}
 use mathlib.Core.List.{List}
 use Prim.Native.Nat.{ℕ, ◌%◌}
+use borrow.Author.Tests.{eqb-true}
+use lib.Dec.{ltb}
 use Rattle.laws.proofs.After.{After, left, after_cond}
+use Rattle.waveforms.specs.Waveforms.{drivers}
 use Rattle.envelope.specs.Envelope.{level_read, rate_clocked, quiescent, clocked as envelope_clocked}
 use Rattle.envelope.specs.declared.Envelope.{Envelope}
 use Rattle.noise.specs.Noise.{stepped_by, relaxed_once, coupled_to, pulled_down}
@@ -25,7 +28,12 @@ use Rattle.sid.proofs.Turn.{parts, turn}
 use Rattle.pack.specs.Pack.{loaded_over, over}
 use Rattle.wiring.specs.Wiring.{wired, code_of, loaded_of, fed_back_of, pulls_down_of}
 use Rattle.wiring.specs.declared.Wiring.{Wiring}
-use Rattle.wiring.proofs.Wired.{code_wired, loaded_wired, fed_back_wired, pulls_down_wired, alone, off_alone}
+use Rattle.wiring.proofs.Wired.{code_wired, loaded_wired, fed_back_wired, pulls_down_wired, Alone, alone}
+
+-- nothing is selected
+pub off_alone : (k : Control) → is_off (selected k) ≡ true → Alone k
+unfolding drivers
+off_alone k off = alone k (ap (λ (r : ℕ). ltb 1 (drivers r)) (eqb-true (selected k).raw 0 off))
 
 -- from a code to its latch: what two waveforms or more do with it, or nothing
 pub data Joins

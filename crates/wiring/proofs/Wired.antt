@@ -6,9 +6,9 @@ use mathlib.Core.List.{List}
 use Prim.Native.Nat.{ℕ, ◌+◌, ◌/◌, ◌%◌, ◌^◌, ◌≤◌}
 use native.Mathlib.Nat.{le_refl, le_trans}
 use native.Mathlib.Omega.{arith}
-use borrow.Author.Tests.{eqb-true, not-true}
+use borrow.Author.Tests.{not-true}
 use lib.Bits.{bit_and, bit_or, bit_xor, or_zero_r, or_add_and, or_mod, and_mod, and_mask, and_le_l}
-use lib.Dec.{eqb, ltb, T}
+use lib.Dec.{eqb, T}
 use Rattle.laws.proofs.Bools.{and_left, and_right}
 use Rattle.laws.proofs.Table.{all, all_at}
 use Rattle.waveforms.specs.Waveforms.{triangle, needs_loading, drivers}
@@ -164,8 +164,3 @@ alone k e =
       uncoupled = and_false k.test_enabled uncouples (not-true uncouples (and_left (not uncouples) (not undrives) spared));
       undriven = λ n cycle. rw (sym (assoc (has s 8) (has s 7) (not k.test_enabled)) ∙ ap (λ (b : Bool). b && not k.test_enabled) unjoined) refl;
     }
-
--- nothing is selected
-pub off_alone : (k : Control) → is_off (selected k) ≡ true → Alone k
-unfolding drivers
-off_alone k off = alone k (ap (λ (r : ℕ). ltb 1 (drivers r)) (eqb-true (selected k).raw 0 off))
