@@ -2,7 +2,7 @@
 // counted and told.
 #![tactic(auto)]
 
-ghost use Rattle.std.specs.Prelude.{◌≡◌};
+ghost use Rattle.std.specs.Prelude.{◌≡◌, IsUtf8, IsNone};
 ghost use Rattle.io.specs.Counts.{IsPrefixLen};
 ghost use Rattle.cases.specs.Answers.{mixed as Answers·mixed, refusal as Answers·refusal};
 ghost use Rattle.cases.specs.Tally.{none, counted};
@@ -95,7 +95,9 @@ pub fn read_full(file: &mut File, list: &mut [u8]) -> usize
 
 // Opens a file of the program's folder. Where that fails it says so on standard error, and gives none. A name that is no
 // text names no file: std takes a file's name as a text.
-pub fn open(rt: &HostRuntime, path: &[u8]) -> Option<File> {
+pub fn open(rt: &HostRuntime, path: &[u8]) -> Option<File>
+    ensures { ¬ (IsUtf8 path.now) → IsNone result }
+{
     let Ok(name) = str::from_utf8(path) else {
         io::write_all(2, path);
         io::write_all(2, b": the name is no text\n");
