@@ -12,9 +12,16 @@ for file in crates/*/src/*.rt; do
   crate=${file#crates/}
   crate=${crate%%/*}
   awk -v crate="$crate" '
+    /^impl(<.*>)? .* for / { # named as the prover names it: `impl From<A> for b` is BFromA
+      trait = $0; sub(/^impl(<[^ ]*>)? /, "", trait); sub(/ for .*/, "", trait); gsub(/[<>]/, "", trait)
+      type = $0; sub(/.* for /, "", type); sub(/[ <].*/, "", type)
+      type = toupper(substr(type, 1, 1)) substr(type, 2) trait "::"; promises = 0; next
+    }
+    /^    ghost [a-z_]* = / { promises = 1 }
     /^impl / { type = $2 "::" }
-    /^}/ { type = "" }
-    /^ *pub (extern "C" )?fn / { name = $0; sub(/.*fn /, "", name); sub(/[(<].*/, "", name); print crate "::" type name }
+    /^}/ { type = ""; promises = 0 }
+    promises && /^    fn / { name = $0; sub(/.*fn /, "", name); sub(/[(<].*/, "", name); print crate "::" type name }
+    /^ *pub (extern "C" )?(const )?fn / { name = $0; sub(/.*fn /, "", name); sub(/[(<].*/, "", name); print crate "::" type name }
   ' "$file"
 done | sort -u > "$room/functions"
 sed -n 's/^| `\([a-z_0-9]*::[A-Za-z_0-9:]*\)` .*/\1/p' docs/CONTRACTS.md | sort > "$room/rows"

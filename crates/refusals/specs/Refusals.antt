@@ -1,6 +1,6 @@
 -- Document 01, 'Numbers a caller can get back', as document 02 amends it: the number of each refusal, in their words.
 -- Every promise of a number cites it. Of 4, 8, 9, 10 and 14 the place is a check's; a writer's is the place reached.
-use Rattle.std.specs.Prelude.{ℕ}
+use Rattle.std.specs.Prelude.{ℕ, Result, Ok, Err}
 use Rattle.refusals.specs.declared.Refused.{Refused}
 use Rattle.refusals.specs.declared.Refusal.{Refusal}
 use Rattle.refusals.specs.declared.Refusal.TheVariants.{NoTable, TableLength, VoiceNumber, ScoreLength, HeaderCut, UnknownTag, FieldLength, StampTooLate, StampFalls, AfterEnd, NoEnd, ValueCut, NoRoom, StampUsed, PackLength, Unsettled}
@@ -54,3 +54,8 @@ numbered number place = record { number = number; place = place }
 -- number and place of a refusal
 abbrev pub told : Refused → Told
 told r = numbered (number_of r.why) r.place
+
+-- what a call tells that can be refused: what was asked for, or number and place of its refusal
+abbrev pub tells : {A : Type 0} → Result A Refused → Result A Told
+tells (Ok x) = Ok x
+tells (Err r) = Err (told r)
