@@ -1,16 +1,16 @@
 -- In an accepted score any two accesses stand on different clocks, the later in the file on the later one. Assumes
 -- nothing.
+use Rattle.std.specs.Prelude.{Ok}
 use Prim.Native.Nat.{ℕ, ◌+◌, ◌≤◌, ◌<◌}
 use native.Mathlib.Omega.{arith}
 use mathlib.Core.Bool.{Bool, true, false, cond}
 use mathlib.Core.List.{List, [], ◌∷◌, ◌++◌}
 use mathlib.Core.Path.{◌≡◌, refl, ap, subst, sym, ◌∙◌}
 use lib.ListN.{length, length-append}
-use Rattle.score.specs.declared.Admitted.TheVariants.{Next}
 use Rattle.score.specs.declared.Field.{Field}
 use Rattle.score.specs.declared.Order.{Order}
 use Rattle.score.specs.Fields.{is_access}
-use Rattle.score.specs.Scores.{good, score_of}
+use Rattle.score.specs.Scores.{score_of}
 use Rattle.score.specs.Stamps.{admit, InOrder, closed, opened}
 use Rattle.score.proofs.Chains.{score_chain}
 use Rattle.score.proofs.Stamps.{Admits, admits}
@@ -28,7 +28,7 @@ free_grows {o} {f} {o'} a = go (is_access f.what) a.not_used a.is_free
 record Among (o : Order) (f : Field) (ys : List Field) : Type 0 where
   before : Order
   after : Order
-  given : admit before f ≡ Next after
+  given : admit before f ≡ Ok after
   above : o.free ≤ before.free
   rest : (length ys ≡ 0 → ⊥) → InOrder after ys
 
@@ -39,7 +39,7 @@ among {o} (closed {o' = o'} {f = g} a i) [] f ys q =
     record {
       before = o;
       after = o';
-      given = subst (λ (x : Field). admit o x ≡ Next o') h a;
+      given = subst (λ (x : Field). admit o x ≡ Ok o') h a;
       above = omega arith;
       rest = λ some. absurd (some (ap length (sym n)));
     }
@@ -50,7 +50,7 @@ among {o} (opened {o' = o'} {f = g} {fs = fs} a i r) [] f ys q =
     record {
       before = o;
       after = o';
-      given = subst (λ (x : Field). admit o x ≡ Next o') h a;
+      given = subst (λ (x : Field). admit o x ≡ Ok o') h a;
       above = omega arith;
       rest = λ _. subst (InOrder o') n r;
     }
@@ -70,5 +70,5 @@ module _ (xs : List Field) (f : Field) (ys : List Field) (g : Field) (zs : List 
         let e : m.after.free ≡ f.stamp + 1 = (admits m.given).is_free ∙ ap (λ (b : Bool). cond b (f.stamp + 1) m.before.free) first in
         omega (arith, n.above, (admits n.given).not_used second)
 
-    pub accesses_apart : (s : List ℕ) → score_of s ≡ good both → f.stamp < g.stamp
+    pub accesses_apart : (s : List ℕ) → score_of s ≡ Ok both → f.stamp < g.stamp
     accesses_apart s e = in_order_apart (chain_order (score_chain s e).0)

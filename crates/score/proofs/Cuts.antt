@@ -1,5 +1,6 @@
 -- An accepted score that is cut is refused at the cut: with 11 between two fields, with 5 in a header, with 12 in a
 -- value. Assumes nothing.
+use Rattle.std.specs.Prelude.{Ok}
 use Prim.Native.Nat.{ℕ, ◌+◌, ◌-◌, ◌≤◌, ◌<◌}
 use native.Mathlib.Omega.{arith}
 use mathlib.Core.Bool.{Bool, true, false}
@@ -16,7 +17,7 @@ use Rattle.score.specs.declared.Field.{Field}
 use Rattle.score.specs.declared.Order.{Order}
 use Rattle.score.specs.Fields.{tag_at, after_at}
 use Rattle.score.specs.Given.{stamp_at, Whole, Timely, Prefix, none, more, Given, row_5, row_12, row_11, missing, Cut}
-use Rattle.score.specs.Scores.{good, score_of, Chain, ends, goes}
+use Rattle.score.specs.Scores.{score_of, Chain, ends, goes}
 use Rattle.score.proofs.Chains.{score_chain}
 use Rattle.score.proofs.Fields.{stands, whole_four}
 use Rattle.score.proofs.Given.{given_refused, prefix_more}
@@ -83,5 +84,5 @@ module _ {s : List ℕ} {n : ℕ} (h : n < length s) where
       go false c rest = rest (omega (arith, (stands s at e).ends, ltb-false n (after_at s at) c))
 
 -- an accepted score, cut anywhere
-pub cut_refused : {s : List ℕ} {fs : List Field} → score_of s ≡ good fs → {n : ℕ} → n < length s → Cut s n
+pub cut_refused : {s : List ℕ} {fs : List Field} → score_of s ≡ Ok fs → {n : ℕ} → n < length s → Cut s n
 cut_refused {s} e h = let c = score_chain s e in chain_cut h c.0 (none c.1) (omega arith)

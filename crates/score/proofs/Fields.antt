@@ -1,10 +1,11 @@
 -- `field_at`, one law for each way that a field is read, and one over all of them; what a field that was read says of
 -- its place, and what a place says of the field that is read there. Assumes nothing.
+use Rattle.std.specs.Prelude.{Ok, Err}
 use Prim.Native.Nat.{ℕ, ◌+◌, ◌≤◌, ◌<◌}
 use native.Mathlib.Omega.{arith}
 use mathlib.Core.Bool.{true, not, ◌||◌}
 use mathlib.Core.List.{List}
-use mathlib.Core.Path.{◌≡◌, refl, subst, sym}
+use mathlib.Core.Path.{◌≡◌, refl, ap, subst, sym}
 use lib.Dec.{ltb, eqb}
 use lib.ListN.{length, drop}
 use borrow.Author.Tests.{lt-ltb, le-ltb, eq-eqb, ne_eqb, ltb-true, ltb-false, eqb-true, eqb-false, not-true, not-false}
@@ -12,9 +13,7 @@ use Rattle.laws.proofs.Cond.{by_test}
 use Rattle.refusals.specs.declared.Refusal.TheVariants.{HeaderCut, UnknownTag, FieldLength, ValueCut}
 use Rattle.refusals.specs.declared.Refused.{Refused}
 use Rattle.score.specs.declared.Field.{Field}
-use Rattle.score.specs.declared.FieldRead.{FieldRead}
-use Rattle.score.specs.declared.FieldRead.TheVariants.{Got, Refused as Unread}
-use Rattle.score.specs.Fields.{len_of, what_of, refuse, tag_at, said_at, len_at, value_at, after_at, field_at, is_end, is_access}
+use Rattle.score.specs.Fields.{FieldRead, len_of, what_of, refuse, tag_at, said_at, len_at, value_at, after_at, field_at, is_end, is_access}
 use Rattle.score.specs.Given.{access_at, Whole}
 
 module _ (s : List ℕ) (at : ℕ) where
@@ -37,7 +36,7 @@ module _ (s : List ℕ) (at : ℕ) where
         unfolding field_at
         value_cut c = simp (le-ltb (length s) (at + 3) h, sym len, ne_eqb n 0 k, eq-eqb (said_at s at) n e, lt-ltb (length s) (at + 3 + n) c)
 
-        pub field_whole : at + 3 + n ≤ length s → field_at s at ≡ Got (value_at s at) (at + 3 + n)
+        pub field_whole : at + 3 + n ≤ length s → field_at s at ≡ Ok (value_at s at, at + 3 + n)
         unfolding field_at
         field_whole f = simp (le-ltb (length s) (at + 3) h, sym len, ne_eqb n 0 k, eq-eqb (said_at s at) n e, le-ltb (length s) (at + 3 + n) f)
 
@@ -48,7 +47,7 @@ module _ (s : List ℕ) (at : ℕ) where
       → (at + 3 ≤ length s → len_at s at ≡ 0 → P (refuse UnknownTag at))
       → (at + 3 ≤ length s → (len_at s at ≡ 0 → ⊥) → (said_at s at ≡ len_at s at → ⊥) → P (refuse FieldLength at))
       → (at + 3 ≤ length s → (len_at s at ≡ 0 → ⊥) → said_at s at ≡ len_at s at → length s < after_at s at → P (refuse ValueCut (length s)))
-      → (Whole s at → P (Got (value_at s at) (after_at s at)))
+      → (Whole s at → P (Ok (value_at s at, after_at s at)))
       → P (field_at s at)
   unfolding field_at
   by_field P header tag len value whole =
@@ -67,13 +66,15 @@ pub record Stands (s : List ℕ) (at : ℕ) (f : Field) (next : ℕ) : Type 0 wh
   pub ends : next ≡ after_at s at
 
 module _ (s : List ℕ) (at : ℕ) {f : Field} {next : ℕ} where
-  unread : {r : Refused} → Unread r ≡ Got f next → Stands s at f next
-  unread e = let z : ◌≡◌ {A = ℕ} 0 1 = cc in absurd (omega arith)
+  unread : {r : Refused} → ◌≡◌ {A = FieldRead} (Err r) (Ok (f, next)) → Stands s at f next
+  unread e = cc
 
-  pub stands : field_at s at ≡ Got f next → Stands s at f next
+  pub stands : field_at s at ≡ Ok (f, next) → Stands s at f next
   stands =
-      by_field s at (λ (r : FieldRead). r ≡ Got f next → Stands s at f next)
-      (λ _. unread) (λ _ _. unread) (λ _ _ _. unread) (λ _ _ _ _. unread) (λ w g. record { whole = w; field = cc; ends = cc })
+      by_field s at (λ (r : FieldRead). r ≡ Ok (f, next) → Stands s at f next)
+      (λ _. unread) (λ _ _. unread) (λ _ _ _. unread) (λ _ _ _ _. unread)
+      (λ w g. let e : ◌≡◌ {A = Field × ℕ} (f, next) (value_at s at, after_at s at) = cc in
+      record { whole = w; field = ap (λ (p : Field × ℕ). p.0) e; ends = ap (λ (p : Field × ℕ). p.1) e })
 
 -- a known tag is one of five
 pub tags : (P : ℕ → Type 0) → P 0x01 → P 0x02 → P 0x03 → P 0x04 → P 0x7f → (tag : ℕ) → (len_of tag ≡ 0 → ⊥) → P tag
@@ -90,7 +91,7 @@ tags P write read levels watch end tag =
     is n t = subst P (sym (eqb-true tag n t))
 
 module _ {s : List ℕ} {at : ℕ} (w : Whole s at) where
-  pub whole_read : field_at s at ≡ Got (value_at s at) (after_at s at)
+  pub whole_read : field_at s at ≡ Ok (value_at s at, after_at s at)
   whole_read = field_whole s at (omega (arith, w.fits)) refl w.known w.says w.fits
 
   pub whole_end : is_end (value_at s at).what ≡ eqb (tag_at s at) 0x7f

@@ -1,4 +1,5 @@
 -- The check of a score gives a number exactly when document 01's table says, at the table's place. Assumes nothing.
+use Rattle.std.specs.Prelude.{Result, Ok, Err}
 use Prim.Native.Nat.{ℕ, zero, suc, ◌+◌, ◌≤◌, ◌<◌}
 use native.Mathlib.Omega.{arith}
 use mathlib.Core.Bool.{Bool, false, cond}
@@ -10,31 +11,26 @@ use lib.ListN.{length}
 use borrow.Author.Tests.{lt-ltb, ltb-true, ltb-false, leb-true, leb-false, eqb-true, eqb-false, eq-eqb, ne_eqb}
 use Rattle.laws.proofs.Cond.{by_test}
 use Rattle.refusals.proofs.Numbers.{told_tells}
-use Rattle.refusals.specs.Refusals.{numbered, told}
-use Rattle.refusals.specs.declared.Refused.{Refused as Refusing}
-use Rattle.score.specs.declared.Admitted.{Admitted}
-use Rattle.score.specs.declared.Admitted.TheVariants.{Next}
-use Rattle.score.specs.declared.Checked.{Checked}
-use Rattle.score.specs.declared.Checked.TheVariants.{Accepted, Refused}
+use Rattle.refusals.specs.Refusals.{numbered, told, tells}
+use Rattle.refusals.specs.declared.Refusal.{Refusal}
+use Rattle.refusals.specs.declared.Refused.{Refused}
 use Rattle.score.specs.declared.Field.{Field}
-use Rattle.score.specs.declared.FieldRead.{FieldRead}
-use Rattle.score.specs.declared.FieldRead.TheVariants.{Got}
 use Rattle.score.specs.declared.Order.{Order}
-use Rattle.score.specs.Fields.{value_at, after_at, field_at, is_end}
+use Rattle.score.specs.Fields.{FieldRead, value_at, after_at, field_at, is_end}
 use Rattle.score.specs.Given.{stamp_at, order_at, Whole, Timely, Prefix, none, more, Judged}
 use Rattle.score.specs.Given.{Given, row_4, row_5, row_6, row_7, row_12, row_8, row_9, row_14, row_10, row_11}
-use Rattle.score.specs.Scores.{Parsed, good, bad, push, after_admit, after_read, walk, score_of, answer, checked, refuses, verdict, Chain, ends, goes}
+use Rattle.score.specs.Scores.{Parsed, push, after_admit, after_read, walk, score_of, answer, checked, Chain, ends, goes}
 use Rattle.score.specs.Stamps.{unstamped, following, admit}
 use Rattle.score.proofs.Fields.{header_cut, tag_unknown, length_wrong, value_cut, by_field, stands, whole_read, whole_end, whole_access}
 use Rattle.score.proofs.Stamps.{too_late, falls, is_used, admitted, by_used, by_stamp, admits}
 use Rattle.score.proofs.Walk.{over, unread, unadmitted, surplus, Kept, kept_first, kept_more, kept_end, too_long}
 
 -- number and place, or the clocks, tell the answer
-pub verdict_tells : (a b : Checked) → verdict a ≡ verdict b → a ≡ b
-verdict_tells (Accepted a) (Accepted b) e = cc
-verdict_tells (Accepted a) (Refused r) e = let z : ◌≡◌ {A = ℕ} 0 1 = cc in absurd (omega arith)
-verdict_tells (Refused r) (Accepted b) e = let z : ◌≡◌ {A = ℕ} 0 1 = cc in absurd (omega arith)
-verdict_tells (Refused a) (Refused b) e = ap Refused (told_tells a b cc)
+pub verdict_tells : (a b : Result ℕ Refused) → tells a ≡ tells b → a ≡ b
+verdict_tells (Ok a) (Ok b) e = cc
+verdict_tells (Ok a) (Err r) e = cc
+verdict_tells (Err r) (Ok a) e = cc
+verdict_tells (Err a) (Err b) e = ap Err (told_tells a b cc)
 
 module _ {s : List ℕ} where
   prefix_short : {at : ℕ} {o : Order} → Prefix s at o → length s ≤ 65536
@@ -49,7 +45,7 @@ module _ {s : List ℕ} where
   whole_following : {at : ℕ} (o : Order) → Whole s at → following o (value_at s at) ≡ order_at s at o
   whole_following {at} o w = ap (λ (b : Bool). record { last = stamp_at s at; free = cond b (stamp_at s at + 1) o.free }) (whole_access w)
 
-  whole_admitted : {at : ℕ} {o : Order} → Whole s at → Timely s at o → admit o (value_at s at) ≡ Next (order_at s at o)
+  whole_admitted : {at : ℕ} {o : Order} → Whole s at → Timely s at o → admit o (value_at s at) ≡ Ok (order_at s at o)
   whole_admitted {at} {o} w t =
       admitted o (value_at s at) t.not_over t.not_below
       (by_used o (value_at s at) (λ (b : Bool). b ≡ false) (λ a u. absurd (omega (arith, t.not_used (sym (whole_access w) ∙ a)))) (λ _. refl))
@@ -59,13 +55,13 @@ module _ {s : List ℕ} where
   pub prefix_more
       : {at next : ℕ} {o o' : Order} {f : Field}
       → Prefix s at o
-      → field_at s at ≡ Got f next
-      → admit o f ≡ Next o'
+      → field_at s at ≡ Ok (f, next)
+      → admit o f ≡ Ok o'
       → is_end f.what ≡ false
       → Prefix s next o'
   prefix_more {at} {next} {o} {o'} {f} p e a i =
       let st = stands s at e in
-      let b : admit o (value_at s at) ≡ Next o' = subst (λ (g : Field). admit o g ≡ Next o') st.field a in
+      let b : admit o (value_at s at) ≡ Ok o' = subst (λ (g : Field). admit o g ≡ Ok o') st.field a in
       let j : is_end (value_at s at).what ≡ false = subst (λ (g : Field). is_end g.what ≡ false) st.field i in
       let ok = admits b in
       let t : Timely s at o = record { not_over = ok.not_over; not_below = ok.not_below; not_used = λ x. ok.not_used (whole_access st.whole ∙ x) } in
@@ -79,11 +75,11 @@ prefix_kept {s} (none h) = kept_first s h
 prefix_kept (more p w t e) = kept_more (prefix_kept p) (whole_read w) (whole_admitted w t) (whole_end w ∙ ne_eqb _ _ e)
 
 module _ {s : List ℕ} where
-  refused_at : {at : ℕ} {o : Order} {r : Refusing} → Prefix s at o → ((n : ℕ) → walk (suc n) s at o ≡ bad r) → verdict (checked s) ≡ refuses (told r)
-  refused_at p w = ap verdict (sym (kept_end (prefix_kept p) w))
+  refused_at : {at : ℕ} {o : Order} {r : Refused} → Prefix s at o → ((n : ℕ) → walk (suc n) s at o ≡ Err r) → tells (checked s) ≡ Err (told r)
+  refused_at p w = ap tells (sym (kept_end (prefix_kept p) w))
 
-  pub given_refused : {number place : ℕ} → Given s number place → verdict (checked s) ≡ refuses (numbered number place)
-  given_refused (row_4 h) = ap verdict (too_long s h)
+  pub given_refused : {number place : ℕ} → Given s number place → tells (checked s) ≡ Err (numbered number place)
+  given_refused (row_4 h) = ap tells (too_long s h)
   given_refused (row_5 p l h) = refused_at p (λ n. unread n s _ _ l (header_cut s _ h))
   given_refused (row_6 p h z) = refused_at p (λ n. unread n s _ _ (omega arith) (tag_unknown s _ h refl z))
   given_refused (row_7 p h k e) = refused_at p (λ n. unread n s _ _ (omega arith) (length_wrong s _ h refl k e))
@@ -107,29 +103,29 @@ module _ {s : List ℕ} where
   place_most (row_10 p w t e l) = omega (arith, prefix_short p)
   place_most (row_11 p) = prefix_short p
 
--- ---- where the check gives a number, its row is given; where it accepts, there is a chain
+-- ---- where the check gives a number, its row is given; where it Ok, there is a chain
 
 module _ (s : List ℕ) where
   -- what an answer of the walk from `at` on means
   abbrev pub Means : ℕ → Order → Parsed → Type 0
-  Means at o (good fs) = Chain s at o fs × (length s ≤ 65536)
-  Means at o (bad r) = Given s (told r).number (told r).place
+  Means at o (Ok fs) = Chain s at o fs × (length s ≤ 65536)
+  Means at o (Err r) = Given s (told r).number (told r).place
 
   means_push
       : {at next : ℕ} {o o' : Order} (f : Field) (p : Parsed)
       → ((fs : List Field) → Chain s next o' fs → Chain s at o (f ∷ fs))
       → Means next o' p
       → Means at o (push f p)
-  means_push f (good fs) g c = (g fs c.0, c.1)
-  means_push f (bad r) g c = c
+  means_push f (Ok fs) g c = (g fs c.0, c.1)
+  means_push f (Err r) g c = c
 
   module _
       (n at : ℕ) (o : Order) (p : Prefix s at o) (rest : (next : ℕ) (o' : Order) → at < next → Prefix s next o' → Means next o' (walk n s next o'))
     where
-      abbrev after : Admitted → Type 0
+      abbrev after : Result Order Refusal → Type 0
       after a = Means at o (after_admit (walk n s) s at (value_at s at) (after_at s at) a)
 
-      means_timely : Whole s at → Timely s at o → after (Next (order_at s at o))
+      means_timely : Whole s at → Timely s at o → after (Ok (order_at s at o))
       means_timely w t =
           let e = whole_read w in
           let a = whole_admitted w t in
@@ -137,7 +133,7 @@ module _ (s : List ℕ) where
           (λ i. by_test (Means at o) (ltb (after_at s at) (length s)) _ _
           (λ l. row_10 p w t (eqb-true _ _ (sym (whole_end w) ∙ i)) (ltb-true _ _ l))
           (λ l. let q : after_at s at ≡ length s = omega (arith, w.fits, ltb-false (after_at s at) (length s) l) in
-          (ends (e ∙ ap (Got (value_at s at)) q) a i, prefix_short p)))
+          (ends (e ∙ ap (λ (n : ℕ). Ok (value_at s at, n)) q) a i, prefix_short p)))
           (λ i. means_push (value_at s at) (walk n s (after_at s at) (order_at s at o)) (λ fs c. goes e a i c)
           (rest (after_at s at) (order_at s at o) (omega arith) (more p w t (eqb-false _ _ (sym (whole_end w) ∙ i)))))
 
@@ -162,18 +158,18 @@ module _ (s : List ℕ) where
       by_test (Means 0 unstamped) (ltb 65536 (length s)) _ _ (λ h. row_4 (ltb-true _ _ h))
       (λ h. walk_means (suc (length s)) 0 unstamped (none (ltb-false _ _ h)) (omega arith))
 
-  pub judged : Judged s (verdict (checked s))
+  pub judged : Judged s (tells (checked s))
   unfolding checked
   judged = go (score_of s) score_means
     where
-      go : (p : Parsed) → Means 0 unstamped p → Judged s (verdict (answer p))
-      go (good fs) m = record { short = m.1; fields = fs; chain = m.0; stamp = refl }
-      go (bad r) m = m
+      go : (p : Parsed) → Means 0 unstamped p → Judged s (tells (answer p))
+      go (Ok fs) m = record { short = m.1; fields = fs; chain = m.0; stamp = refl }
+      go (Err r) m = m
 
   -- 'Given exactly when'
-  pub given_exactly : (number place : ℕ) → (verdict (checked s) ≡ refuses (numbered number place)) ↔ Given s number place
+  pub given_exactly : (number place : ℕ) → (tells (checked s) ≡ Err (numbered number place)) ↔ Given s number place
   given_exactly number place = (λ e. subst (Judged s) e judged, given_refused)
 
   -- the promise of `check_score`
-  pub promised : {r : Checked} → r ≡ checked s → (r ≡ checked s) × Judged s (verdict r)
+  pub promised : {r : Result ℕ Refused} → r ≡ checked s → (r ≡ checked s) × Judged s (tells r)
   promised e = (e, rw e judged)

@@ -1,5 +1,6 @@
 -- The round trip: an accepted score is the bytes of its fields, and the bytes of fields in order are a score of those
 -- fields. Assumes nothing.
+use Rattle.std.specs.Prelude.{Ok}
 use Prim.Native.Nat.{ℕ, ◌+◌, ◌^◌, ◌≤◌, ◌<◌}
 use native.Mathlib.Omega.{arith}
 use mathlib.Core.List.{List, [], ◌∷◌, ◌++◌, append_assoc}
@@ -9,12 +10,11 @@ use lib.Seq.{drop-drop, drop-length, get_or-drop, drop-append_seam}
 use Rattle.words.proofs.Bytes.{length_bytes, byte_number, byte_first, number_bytes, bytes_number}
 use Rattle.words.specs.Words.{Bytes, number_at, bytes_of}
 use Rattle.score.specs.declared.Field.{Field}
-use Rattle.score.specs.declared.FieldRead.TheVariants.{Got}
 use Rattle.score.specs.declared.Order.{Order}
 use Rattle.score.specs.declared.What.{What}
 use Rattle.score.specs.declared.What.TheVariants.{Write, Read, Levels, Watch, End}
 use Rattle.score.specs.Fields.{len_of, what_of, stamped, value_of, field_at, tag_of, rest_of, written, all_written}
-use Rattle.score.specs.Scores.{good, score_of, Chain, ends, goes}
+use Rattle.score.specs.Scores.{score_of, Chain, ends, goes}
 use Rattle.score.specs.Stamps.{unstamped, InOrder, closed, opened}
 use Rattle.score.proofs.Chains.{score_chain, chain_score}
 use Rattle.score.proofs.Fields.{field_whole, stands, tags}
@@ -44,7 +44,7 @@ unfolding written
 parts t w ys = simp append_assoc
 
 module _ (s : List ℕ) (small : Bytes s) where
-  pub field_bytes : (at : ℕ) {f : Field} {next : ℕ} → field_at s at ≡ Got f next → drop at s ≡ written f ++ drop next s
+  pub field_bytes : (at : ℕ) {f : Field} {next : ℕ} → field_at s at ≡ Ok (f, next) → drop at s ≡ written f ++ drop next s
   field_bytes at {f} {next} e =
       let st = stands s at e in
       let tag = number_at 1 s at in
@@ -87,7 +87,7 @@ module _ (ys : List ℕ) where
   what_back t Watch = refl
   what_back t End = refl
 
-  pub field_back : (s : List ℕ) (at : ℕ) (f : Field) → f.stamp < 2 ^ 32 → drop at s ≡ written f ++ ys → field_at s at ≡ Got f (at + length (written f))
+  pub field_back : (s : List ℕ) (at : ℕ) (f : Field) → f.stamp < 2 ^ 32 → drop at s ≡ written f ++ ys → field_at s at ≡ Ok (f, at + length (written f))
   unfolding bytes_of
   field_back s at f l e =
       let w = f.what in
@@ -100,7 +100,7 @@ module _ (ys : List ℕ) where
       let says : number_at 2 s (at + 1) ≡ n = bytes_number s 2 (at + 1) n v (sym (drop-drop 1 at s) ∙ ap (drop 1) d) (omega arith) (omega arith) in
       let rest : drop (at + 3) s ≡ v = sym (drop-drop 3 at s) ∙ ap (drop 3) d in
       field_whole s at (omega arith) (ap len_of (sym t)) (λ z. omega arith) says (omega arith)
-      ∙ ap₂ Got (ap₂ value_of t rest ∙ ap₂ stamped (stamp_back f.stamp w l) (what_back f.stamp w)) (omega arith)
+      ∙ ap₂ (λ (g : Field) (n : ℕ). Ok (g, n)) (ap₂ value_of t rest ∙ ap₂ stamped (stamp_back f.stamp w l) (what_back f.stamp w)) (omega arith)
 
 -- ---- scores
 
@@ -114,7 +114,7 @@ chain_order (ends e a i) = closed a i
 chain_order (goes e a i r) = opened a i (chain_order r)
 
 -- an accepted score is the bytes of its fields, which are in order
-pub score_bytes : {s : List ℕ} {fs : List Field} → Bytes s → score_of s ≡ good fs → (s ≡ all_written fs) × InOrder unstamped fs × (length s ≤ 65536)
+pub score_bytes : {s : List ℕ} {fs : List Field} → Bytes s → score_of s ≡ Ok fs → (s ≡ all_written fs) × InOrder unstamped fs × (length s ≤ 65536)
 score_bytes {s} small e = let c = score_chain s e in (chain_bytes small c.0, chain_order c.0, c.1)
 
 order_chain : {o : Order} {fs : List Field} → InOrder o fs → (s : List ℕ) (at : ℕ) → drop at s ≡ all_written fs → Chain s at o fs
@@ -123,12 +123,12 @@ order_chain (closed {f = f} a i) s at e =
     let l = (admits a).not_over in
     let sh = shape f.stamp f.what in
     let q : at + length (written f) ≡ length s = omega (arith, length-drop at s, ap length e, length-append (written f) []) in
-    ends (field_back [] s at f (omega arith) e ∙ ap (Got f) q) a i
+    ends (field_back [] s at f (omega arith) e ∙ ap (λ (n : ℕ). Ok (f, n)) q) a i
 order_chain (opened {f = f} {fs = fs} a i r) s at e =
     let l = (admits a).not_over in
     goes (field_back (all_written fs) s at f (omega arith) e) a i
     (order_chain r s (at + length (written f)) (sym (drop-drop (length (written f)) at s) ∙ (ap (drop (length (written f))) e ∙ drop-append_seam (written f) (all_written fs))))
 
 -- fields in order, written, are read back
-pub score_back : {fs : List Field} → InOrder unstamped fs → length (all_written fs) ≤ 65536 → score_of (all_written fs) ≡ good fs
+pub score_back : {fs : List Field} → InOrder unstamped fs → length (all_written fs) ≤ 65536 → score_of (all_written fs) ≡ Ok fs
 score_back {fs} r h = chain_score (order_chain r (all_written fs) 0 refl) h

@@ -1,12 +1,11 @@
 -- A field of a score: document 01, 'Score and program' and 'Numbers a caller can get back', as document 02 amends it.
-use Rattle.std.specs.Prelude.{ℕ, ◌+◌, Bool, true, false, cond, not, List, [], ◌∷◌, ◌++◌, ltb, eqb, length, drop}
+use Rattle.std.specs.Prelude.{ℕ, ◌+◌, Bool, true, false, cond, not, List, [], ◌∷◌, ◌++◌, ltb, eqb, length, drop, Option, Some, None, Result, Ok, Err}
 use Rattle.refusals.specs.Refusals.{refused}
 use Rattle.refusals.specs.declared.Refusal.{Refusal}
 use Rattle.refusals.specs.declared.Refusal.TheVariants.{HeaderCut, UnknownTag, FieldLength, ValueCut}
+use Rattle.refusals.specs.declared.Refused.{Refused}
 use Rattle.words.specs.Words.{number_at, bytes_of}
 use Rattle.score.specs.declared.Field.{Field}
-use Rattle.score.specs.declared.FieldRead.{FieldRead}
-use Rattle.score.specs.declared.FieldRead.TheVariants.{Got, Refused}
 use Rattle.score.specs.declared.What.{What}
 use Rattle.score.specs.declared.What.TheVariants.{Write, Read, Levels, Watch, End}
 
@@ -14,6 +13,10 @@ use Rattle.score.specs.declared.What.TheVariants.{Write, Read, Levels, Watch, En
 -- 4, with a stamp'; 0 of an unknown tag
 unfoldable pub len_of : ℕ → ℕ
 len_of tag = cond (eqb tag 0x01) 6 (cond (eqb tag 0x02) 5 (cond (eqb tag 0x03) 4 (cond (eqb tag 0x04) 4 (cond (eqb tag 0x7f) 4 0))))
+
+-- the same, where the tag is known
+abbrev pub known_len : ℕ → Option ℕ
+known_len tag = cond (eqb (len_of tag) 0) None (Some (len_of tag))
 
 abbrev pub stamped : ℕ → What → Field
 stamped stamp what = record { stamp = stamp; what = what }
@@ -27,8 +30,12 @@ what_of tag v =
 abbrev pub value_of : ℕ → List ℕ → Field
 value_of tag v = stamped (number_at 4 v 0) (what_of tag v)
 
+-- a field and the place after it, or the refusal
+abbrev pub FieldRead : Type 0
+FieldRead = Result (Field × ℕ) Refused
+
 abbrev pub refuse : Refusal → ℕ → FieldRead
-refuse why place = Refused (refused why place)
+refuse why place = Err (refused why place)
 
 -- 'one-byte tag, two-byte length', then the value: the tag at a place, the length that the header says, the length that
 -- the tag asks for, the field of a known tag, the place after it
@@ -55,7 +62,7 @@ field_at s at =
     (cond (eqb (len_at s at) 0) (refuse UnknownTag at)
     (cond (not (eqb (said_at s at) (len_at s at))) (refuse FieldLength at)
     (cond (ltb (length s) (after_at s at)) (refuse ValueCut (length s))
-    (Got (value_at s at) (after_at s at)))))
+    (Ok (value_at s at, after_at s at)))))
 
 abbrev pub tag_of : What → ℕ
 tag_of (Write a v) = 0x01

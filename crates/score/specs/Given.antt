@@ -1,12 +1,12 @@
 -- Document 01, 'Numbers a caller can get back', rows 4 to 11, and document 02's 12 and 14, in plain numbers: what each
 -- is given for, at which place. `given_exactly` holds the check to them.
-use Rattle.std.specs.Prelude.{ℕ, ◌+◌, ◌-◌, ◌≤◌, ◌<◌, Bool, true, cond, ◌||◌, List, ◌≡◌, ltb, eqb, length, drop, take}
-use Rattle.refusals.specs.Refusals.{numbered}
+use Rattle.std.specs.Prelude.{ℕ, ◌+◌, ◌-◌, ◌≤◌, ◌<◌, Bool, true, cond, ◌||◌, List, ◌≡◌, ltb, eqb, length, drop, take, Result, Ok, Err}
+use Rattle.refusals.specs.Refusals.{numbered, Told, tells}
 use Rattle.words.specs.Words.{number_at}
 use Rattle.score.specs.declared.Field.{Field}
 use Rattle.score.specs.declared.Order.{Order}
 use Rattle.score.specs.Fields.{tag_at, said_at, len_at, after_at}
-use Rattle.score.specs.Scores.{clocks_of, checked, Chain, Verdict, accepts, refuses, verdict}
+use Rattle.score.specs.Scores.{clocks_of, checked, Chain}
 use Rattle.score.specs.Stamps.{unstamped}
 
 -- 'stamp in 4 bytes': the first four after the header
@@ -96,10 +96,10 @@ pub record Chained (s : List ℕ) (clocks : ℕ) : Type 0 where
   pub chain : Chain s 0 unstamped fields
   pub stamp : clocks_of fields ≡ clocks
 
--- what document 01 says where the check's verdict is this
-abbrev pub Judged : List ℕ → Verdict → Type 0
-Judged s (accepts clocks) = Chained s clocks
-Judged s (refuses t) = Given s t.number t.place
+-- what document 01 says where the check tells this: the clocks of an accepted score, or the number and the place
+abbrev pub Judged : List ℕ → Result ℕ Told → Type 0
+Judged s (Ok clocks) = Chained s clocks
+Judged s (Err t) = Given s t.number t.place
 
 -- 'which half of the field is missing', so many of its bytes being there: 11 if none, 5 in its header, 12 in its value
 unfoldable pub missing : ℕ → ℕ
@@ -113,4 +113,4 @@ pub record Cut (s : List ℕ) (n : ℕ) : Type 0 where
   pub whole : Whole s tag
   pub begins : tag ≤ n
   pub ends : n < after_at s tag
-  pub told : verdict (checked (take n s)) ≡ refuses (numbered (missing (n - tag)) n)
+  pub told : tells (checked (take n s)) ≡ Err (numbered (missing (n - tag)) n)

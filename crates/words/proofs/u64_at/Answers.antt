@@ -1,19 +1,10 @@
--- `u64_at` is the number in eight bytes, two halves of `u32_at`, and 0 where they are not all there.
-use native.Mathlib.Omega.{arith}
-use Prim.Native.Nat.{◌+◌}
-use mathlib.Core.Path.{sym, ◌∙◌}
-use lib.ListN.{length}
-use borrow.Author.Tests.{leb-true, leb-false}
-use Rattle.words.proofs.Words.{number_cut, number_join}
+-- `u64_at` is the number in eight bytes, the lowest first, and 0 where they are not all there.
+use Rattle.std.proofs.Common.{arith, w64}
+use Rattle.std.specs.Int.{from_le_bytes}
+use Rattle.words.specs.Words.{little}
+use Rattle.words.proofs.Words.{number_read}
 use Rattle.words.proofs.u64_at.Goals as goal
 
-pub returns-then-whole : goal.returns-then-whole
-returns-then-whole c =
-    let a = c.args in
-    let h = leb-true (a.at + 8) (length a.s.now) (sym c.whole.ensures ∙ c.if-whole.true) in
-    omega (arith, number_join a.s.now 4 4 a.at h)
-
 pub returns : goal.returns
-returns c =
-    let a = c.args in
-    sym (number_cut a.s.now 8 a.at (leb-false (a.at + 8) (length a.s.now) (sym c.whole.ensures ∙ c.if-whole.false)))
+unfolding little
+returns c = number_read 8 _ _ _ _ (from_le_bytes w64) (λ b. omega arith) c.bytes_at.ensures c.map_or.ensures

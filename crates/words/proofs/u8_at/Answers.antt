@@ -1,17 +1,10 @@
--- `u8_at` is the byte at a place, and 0 past the end.
-use native.Mathlib.Omega.{arith}
-use mathlib.Core.Path.{sym}
+-- `u8_at` is the number in one bytes, the lowest first, and 0 where they are not all there.
+use Rattle.std.proofs.Common.{arith, w8}
+use Rattle.std.specs.Int.{from_le_bytes}
 use Rattle.words.specs.Words.{little}
-use Rattle.words.proofs.Words.{number_there, number_cut}
+use Rattle.words.proofs.Words.{number_read}
 use Rattle.words.proofs.u8_at.Goals as goal
-
-pub returns-then-s-at : goal.returns-then-s-at
-returns-then-s-at c =
-    let a = c.args in
-    sym (number_cut a.s.now 1 a.at (omega arith))
 
 pub returns : goal.returns
 unfolding little
-returns c =
-    let a = c.args in
-    omega (arith, number_there a.s.now 1 a.at (omega arith))
+returns c = number_read 1 _ _ _ _ (from_le_bytes w8) (λ b. omega arith) c.bytes_at.ensures c.map_or.ensures
