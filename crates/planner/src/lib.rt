@@ -11,7 +11,6 @@ ghost use Rattle.planner.specs.Skips.{is_waiting, Leads};
 use envelope::{Envelope, EnvelopeMotion};
 
 // The rate matches from a level to zero, on a fall from 0xff.
-#[tactic(auto, using(crate::proofs::Falls::table_right))]
 pub fn matches_to_zero(level: u8) -> u16
     ensures { result ≡ to_zero level }
 {
