@@ -1,17 +1,15 @@
 -- Before its next expiry no bit of a byte goes (`kept_safe`), and a loop over the bits finds that expiry.
 -- Assumes nothing.
-use Prim.Native.Nat.{ℕ, ◌+◌, ◌/◌, ◌%◌, ◌≤◌, ◌<◌, min}
+use Prim.Native.Nat.{ℕ, ◌-◌, ◌/◌, ◌%◌, ◌^◌, ◌≤◌, ◌<◌, min}
 use native.Mathlib.Omega.{arith}
-use native.Mathlib.Numerals.{add-one}
-use mathlib.Core.Path.{◌≡◌, refl, ap, sym, ◌∙◌}
+use mathlib.Core.Path.{◌≡◌, refl, sym}
 use mathlib.Core.List.{List, [], ◌∷◌}
 use mathlib.Core.Bool.{Bool, true, false, cond}
-use lib.ListN.{length, get_or, drop}
-use lib.Seq.{drop-cons}
+use lib.ListN.{get_or, drop}
 use lib.Dec.{ltb, eqb}
 use borrow.Author.Tests.{lt-ltb, le-ltb, eq-eqb, ne_eqb, eqb-false}
 use Rattle.bus.specs.Bus.{holds, kept, no_expiry, next_expiry_for}
-use Rattle.bus.proofs.Kept.{kept_low, kept_half}
+use Rattle.bus.proofs.Kept.{kept_low, kept_half, bits_half, holds_drop}
 
 pub next_le : (hs : List ℕ) (v n : ℕ) → next_expiry_for hs v n ≤ no_expiry
 unfolding next_expiry_for
@@ -55,38 +53,36 @@ kept_safe (h ∷ hs) v m n l =
     let s = rw (kept_low h hs v m, kept_half h hs v m) at l in
     rw (kept_low h hs v m, kept_half h hs v m, bit_kept_safe h (v % 2) m n (omega arith) (omega (arith, s)), kept_safe hs (v / 2) m n (omega (arith, s)))
 
--- ---- a turn of the loop: `next` is the least so far, `rest` is to come, K is the whole
+-- ---- a turn of a loop over the bits, the highest first: the bit below b
 
-next_step
-    : (hs : List ℕ) (bit rest n : ℕ)
-    → bit < length hs
-    → next_expiry_for (drop bit hs) rest n
-    ≡ min (cond (eqb (rest % 2) 1) (cond (ltb n (get_or hs bit 0)) (get_or hs bit 0) no_expiry) no_expiry) (next_expiry_for (drop (bit + 1) hs) (rest / 2) n)
-unfolding next_expiry_for
-next_step hs bit rest n h = ap (λ (l : List ℕ). next_expiry_for l rest n) (drop-cons hs bit 0 h) ∙ rw add-one
+module _ (v n b : ℕ) (h : 0 < b) (l : b ≤ 8) where
+  next_turn
+      : next_expiry_for (drop (b - 1) holds) (v / 2 ^ (b - 1)) n
+      ≡ min (cond (eqb (v / 2 ^ (b - 1) % 2) 1) (cond (ltb n (get_or holds (b - 1) 0)) (get_or holds (b - 1) 0) no_expiry) no_expiry) (next_expiry_for (drop b holds) (v / 2 ^ b) n)
+  unfolding next_expiry_for
+  next_turn = rw (holds_drop b h l, ← bits_half b h v)
 
-module _ (next rest n bit K : ℕ) (h : bit < 8) (e : min next (next_expiry_for (drop bit holds) rest n) ≡ K) where
-  turn
-      : (x : ℕ)
-      → cond (eqb (rest % 2) 1) (cond (ltb n (get_or holds bit 0)) (get_or holds bit 0) no_expiry) no_expiry ≡ x
-      → min (min next x) (next_expiry_for (drop (bit + 1) holds) (rest / 2) n) ≡ K
-  unfolding holds
-  turn x q =
-      let t : next_expiry_for (drop bit holds) rest n ≡ min x (next_expiry_for (drop (bit + 1) holds) (rest / 2) n) = rw q at (next_step holds bit rest n h) in
-      omega (arith, rw t at e)
+  pub expires
+      : v / 2 ^ (b - 1) % 2 ≡ 1
+      → n < get_or holds (b - 1) 0
+      → min (next_expiry_for (drop b holds) (v / 2 ^ b) n) (get_or holds (b - 1) 0) ≡ next_expiry_for (drop (b - 1) holds) (v / 2 ^ (b - 1)) n
+  expires s k =
+      let t = rw (eq-eqb (v / 2 ^ (b - 1) % 2) 1 s, lt-ltb n (get_or holds (b - 1) 0) k) at next_turn in
+      omega arith
 
-  -- the bit is set and has not faded; it is set and has; it is not set
-  pub expires : (x : ℕ) → rest % 2 ≡ 1 → n < get_or holds bit 0 → x ≡ min next (get_or holds bit 0) → min x (next_expiry_for (drop (bit + 1) holds) (rest / 2) n) ≡ K
-  expires x s l q = rw q (turn (get_or holds bit 0) (simp (eq-eqb (rest % 2) 1 s, lt-ltb n (get_or holds bit 0) l)))
+  pub expired
+      : v / 2 ^ (b - 1) % 2 ≡ 1
+      → get_or holds (b - 1) 0 ≤ n
+      → next_expiry_for (drop b holds) (v / 2 ^ b) n ≡ next_expiry_for (drop (b - 1) holds) (v / 2 ^ (b - 1)) n
+  expired s k =
+      let t = rw (eq-eqb (v / 2 ^ (b - 1) % 2) 1 s, le-ltb n (get_or holds (b - 1) 0) k) at next_turn in
+      omega (arith, next_le (drop b holds) (v / 2 ^ b) n)
 
-  pub expired : rest % 2 ≡ 1 → get_or holds bit 0 ≤ n → next ≤ no_expiry → min next (next_expiry_for (drop (bit + 1) holds) (rest / 2) n) ≡ K
-  expired s l f = omega (arith, turn no_expiry (simp (eq-eqb (rest % 2) 1 s, le-ltb n (get_or holds bit 0) l)))
+  pub unset
+      : (v / 2 ^ (b - 1) % 2 ≡ 1 → ⊥)
+      → next_expiry_for (drop b holds) (v / 2 ^ b) n ≡ next_expiry_for (drop (b - 1) holds) (v / 2 ^ (b - 1)) n
+  unset s =
+      let t = rw (ne_eqb (v / 2 ^ (b - 1) % 2) 1 s) at next_turn in
+      omega (arith, next_le (drop b holds) (v / 2 ^ b) n)
 
-  pub unset : (rest % 2 ≡ 1 → ⊥) → next ≤ no_expiry → min next (next_expiry_for (drop (bit + 1) holds) (rest / 2) n) ≡ K
-  unset s f = omega (arith, turn no_expiry (simp (ne_eqb (rest % 2) 1 s)))
-
-pub all_seen : (next rest n bit K : ℕ) → bit ≡ 8 → next ≤ no_expiry → min next (next_expiry_for (drop bit holds) rest n) ≡ K → next ≡ K
-unfolding next_expiry_for holds
-all_seen next rest n bit K b f e =
-    let z : next_expiry_for (drop bit holds) rest n ≡ no_expiry = ap (λ (k : ℕ). next_expiry_for (drop k holds) rest n) b in
-    omega (arith, rw z at e)
+pub ruleset next_turns = (expires, expired, unset)

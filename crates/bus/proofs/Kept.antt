@@ -1,15 +1,14 @@
 -- A bit is kept exactly if its hold exceeds n (`kept_bit`), whatever has gone before (`kept_later`); a loop over the
 -- bits works it out. Assumes nothing.
-use Prim.Native.Nat.{ℕ, zero, suc, ◌+◌, ◌*◌, ◌/◌, ◌%◌, ◌^◌, ◌≤◌, ◌<◌}
+use Prim.Native.Nat.{ℕ, zero, suc, ◌+◌, ◌-◌, ◌*◌, ◌/◌, ◌%◌, ◌^◌, ◌≤◌, ◌<◌}
 use native.Mathlib.Omega.{arith}
-use native.Mathlib.Nat.{mul-add, mul_assoc, mul_comm, pow-le-pow_right, pow-suc, mul-le-mul_right, one-mul, pow-succ', div-one, div-div-eq-div-mul, le_of_suc-le-suc}
-use native.Mathlib.Numerals.{add-one}
-use mathlib.Core.Path.{◌≡◌, refl, ap, ◌∙◌}
+use native.Mathlib.Nat.{pow-suc, div-le_self, pow-succ', div-one, div-div-eq-div-mul, le_of_suc-le-suc}
+use mathlib.Core.Path.{◌≡◌, refl}
 use mathlib.Core.List.{List, [], ◌∷◌}
 use mathlib.Core.Bool.{Bool, true, false, cond}
 use lib.ListN.{length, get_or, drop}
 use lib.Seq.{drop-cons}
-use lib.Dec.{ltb, leb, leb→le, lit<}
+use lib.Dec.{ltb, leb, leb→le}
 use borrow.Author.Tests.{lt-ltb, le-ltb, ltb-true}
 use Rattle.laws.proofs.Cond.{either}
 use Rattle.laws.proofs.Table.{at}
@@ -75,43 +74,36 @@ kept_bit [] v n k l = absurd (omega arith)
 kept_bit (h ∷ hs) v n zero l = simp div-one (kept_low h hs v n)
 kept_bit (h ∷ hs) v n (suc k) l = simp (pow-succ', ← div-div-eq-div-mul, kept_half h hs v n) (kept_bit hs (v / 2) n k (le_of_suc-le-suc l))
 
--- ---- a turn of the loop: `out` is made, `rest` is to come at `weight`, K is the whole
+-- ---- a turn of a loop over the bits, the highest first: the bit below b
 
-Kept_step
-    : (hs : List ℕ) (bit rest n : ℕ)
-    → bit < length hs
-    → kept (drop bit hs) rest n ≡ cond (ltb n (get_or hs bit 0)) (rest % 2) 0 + 2 * kept (drop (bit + 1) hs) (rest / 2) n
-unfolding kept
-Kept_step hs bit rest n h = ap (λ (l : List ℕ). kept l rest n) (drop-cons hs bit 0 h) ∙ rw add-one
+module _ (b : ℕ) (h : 0 < b) where
+  pub bits_half : (v : ℕ) → v / 2 ^ (b - 1) / 2 ≡ v / 2 ^ b
+  bits_half v =
+      let e : suc (b - 1) ≡ b = omega arith in
+      let p : 2 ^ b ≡ 2 ^ (b - 1) * 2 = rw e at (pow-suc 2 (b - 1)) in
+      rw p (div-div-eq-div-mul v (2 ^ (b - 1)) 2)
 
-weighed : (w x k : ℕ) → w * (x + 2 * k) ≡ x * w + w * 2 * k
-weighed w x k = mul-add w x (2 * k) ∙ rw (mul_comm w x, mul_assoc w 2 k)
-
-module _ (out weight rest n bit K : ℕ) (h : bit < 8) (e : out + weight * kept (drop bit holds) rest n ≡ K) where
-  turn : (x : ℕ) → cond (ltb n (get_or holds bit 0)) (rest % 2) 0 ≡ x → out + x * weight + weight * 2 * kept (drop (bit + 1) holds) (rest / 2) n ≡ K
+  pub holds_drop : b ≤ 8 → drop (b - 1) holds ≡ get_or holds (b - 1) 0 ∷ drop b holds
   unfolding holds
-  turn x q =
-      let t : kept (drop bit holds) rest n ≡ x + 2 * kept (drop (bit + 1) holds) (rest / 2) n = rw q at (Kept_step holds bit rest n h) in
-      omega (arith, rw t at e, weighed weight x (kept (drop (bit + 1) holds) (rest / 2) n))
+  holds_drop l = let e : suc (b - 1) ≡ b = omega arith in rw e at (drop-cons holds (b - 1) 0 (omega arith))
 
-  pub stays : n < get_or holds bit 0 → out + rest % 2 * weight + weight * 2 * kept (drop (bit + 1) holds) (rest / 2) n ≡ K
-  stays l = turn (rest % 2) (simp (lt-ltb n (get_or holds bit 0) l))
+  module _ (v n : ℕ) (l : b ≤ 8) where
+    kept_turn
+        : kept (drop (b - 1) holds) (v / 2 ^ (b - 1)) n
+        ≡ cond (ltb n (get_or holds (b - 1) 0)) (v / 2 ^ (b - 1) % 2) 0 + 2 * kept (drop b holds) (v / 2 ^ b) n
+    unfolding kept
+    kept_turn = rw (holds_drop l, ← bits_half v)
 
-  pub goes : get_or holds bit 0 ≤ n → out + weight * 2 * kept (drop (bit + 1) holds) (rest / 2) n ≡ K
-  goes l = omega (arith, turn 0 (simp (le-ltb n (get_or holds bit 0) l)))
+    pub stays : n < get_or holds (b - 1) 0 → kept (drop b holds) (v / 2 ^ b) n * 2 + v / 2 ^ (b - 1) % 2 ≡ kept (drop (b - 1) holds) (v / 2 ^ (b - 1)) n
+    stays k = let t = rw (lt-ltb n (get_or holds (b - 1) 0) k) at kept_turn in omega arith
 
-pub all_seen : (out weight rest n bit K : ℕ) → bit ≡ 8 → out + weight * kept (drop bit holds) rest n ≡ K → out ≡ K
-unfolding kept holds
-all_seen out weight rest n bit K b e =
-    let z : kept (drop bit holds) rest n ≡ 0 = ap (λ (k : ℕ). kept (drop k holds) rest n) b in
-    let y : out + weight * 0 ≡ K = rw z at e in
-    omega arith
+    pub goes : get_or holds (b - 1) 0 ≤ n → kept (drop b holds) (v / 2 ^ b) n * 2 ≡ kept (drop (b - 1) holds) (v / 2 ^ (b - 1)) n
+    goes k = let t = rw (le-ltb n (get_or holds (b - 1) 0) k) at kept_turn in omega arith
 
-pub weight_le : (w bit : ℕ) → w ≡ 2 ^ bit → bit < 8 → w ≤ 128
-weight_le w bit e h = omega (arith, pow-le-pow_right {n = 2} (lit< tt) {i = bit} {j = 7} (omega arith))
+    pub before_le : kept (drop b holds) (v / 2 ^ b) n * 2 ≤ v
+    before_le = omega (arith, kept_le (drop b holds) (v / 2 ^ b) n, bits_half v, div-le_self v (2 ^ (b - 1)))
 
-pub weight_next : (w bit : ℕ) → w ≡ 2 ^ bit → w * 2 ≡ 2 ^ (bit + 1)
-weight_next w bit e = rw (e, add-one, pow-suc)
+    pub after_le : kept (drop (b - 1) holds) (v / 2 ^ (b - 1)) n ≤ v
+    after_le = omega (arith, kept_le (drop (b - 1) holds) (v / 2 ^ (b - 1)) n, div-le_self v (2 ^ (b - 1)))
 
-pub weighed_le : (r w : ℕ) → r % 2 * w ≤ w
-weighed_le r w = omega (arith, mul-le-mul_right {m = r % 2} {n = 1} w (omega arith), one-mul w)
+pub ruleset kept_turns = (stays, goes, before_le, after_le)

@@ -1,12 +1,10 @@
 -- Where nothing is under way a clock is the rate counter's alone: 'the short way at the head of `clock` gives the
 -- same state'; and then nothing is, unless the rate matched (`quiet_next`). Assumes nothing.
-use Rattle.std.proofs.Common.{◌≡◌, Bool, true, false, cond, not, ◌&&◌, eqb, refl, ap₂, eq-eqb, eqb-true}
+use Rattle.std.proofs.Common.{◌≡◌, Bool, true, false, cond, not, ◌&&◌, None, eqb, refl, ap₂, eq-eqb, eqb-true}
 use mathlib.Core.Bool.{beq, false≢true}
 use borrow.Author.Tests.{not-true}
 use Rattle.laws.proofs.Bools.{and_both}
-use Rattle.envelope.specs.Sets.{set_gate, set_matched_rate, set_rate_phase}
 use Rattle.envelope.specs.declared.Envelope.{Envelope}
-use Rattle.envelope.specs.declared.GateEdge.TheVariants.{Still}
 use Rattle.envelope.specs.Envelope.{level_read, divisor_committed, edge_of, requested_on, gate_sampled, motion_committed, amplitude_clocked, curve_clocked, match_consumed, phase_up, rate_clocked, clocked, quiescent}
 
 last : (a b : Bool) → (a && b) ≡ true → (c : Bool) → (a && c) ≡ c
@@ -19,7 +17,7 @@ same true false h = absurd (false≢true h)
 same false true h = absurd (false≢true h)
 same false false h = refl
 
-edge_still : (a b : Bool) → a ≡ b → edge_of a b ≡ Still
+edge_still : (a b : Bool) → a ≡ b → edge_of a b ≡ None
 edge_still true b h = rw (← h)
 edge_still false b h = rw (← h)
 
@@ -32,7 +30,7 @@ module _ (e : Envelope) where
   unfolding gate_sampled requested_on
   gate_still p q =
       rw (edge_still e.gate.stage_a e.gate.stage_b q)
-      (ap₂ (λ x y. set_gate e (record { input = e.gate.input; stage_a = x; stage_b = y })) p q)
+      (ap₂ (λ x y. record e { gate = record e.gate { stage_a = x; stage_b = y } }) p q)
 
   pub motion_still : e.motion_delay ≡ 0 → motion_committed e ≡ e
   unfolding motion_committed
@@ -109,7 +107,7 @@ quiet_next e h = go (eqb e.rate_phase e.rate_target_phase) (λ c. last (rests e)
   where
     go : (matched : Bool)
         → ((c : Bool) → (rests e && c) ≡ c)
-        → quiescent (cond matched (set_matched_rate (level_read e) true) (set_rate_phase (level_read e) (phase_up e.rate_phase)))
-        ≡ not (cond matched (set_matched_rate (level_read e) true) (set_rate_phase (level_read e) (phase_up e.rate_phase))).matched_rate
+        → quiescent (cond matched (record (level_read e) { matched_rate = true }) (record (level_read e) { rate_phase = phase_up e.rate_phase }))
+        ≡ not (cond matched (record (level_read e) { matched_rate = true }) (record (level_read e) { rate_phase = phase_up e.rate_phase })).matched_rate
     go true f = f false
     go false f = f (not e.matched_rate)

@@ -1,12 +1,10 @@
 -- 'the readback takes the old level', and no other part of a clock touches it. Assumes nothing.
-use Rattle.std.proofs.Common.{◌≡◌, ℕ, ◌-◌, eqb, refl}
+use Rattle.std.proofs.Common.{◌≡◌, ℕ, ◌-◌, Bool, true, false, Option, Some, None, eqb, refl}
 use Rattle.laws.proofs.Cond.{by_test}
 use Rattle.envelope.specs.Envelope.{rising_rate_selected, target_refreshed, level_read, divisor_committed, edge, requested_on, gate_sampled, motion_taken, motion_committed, divisor_selected, top_reached, up, stepped_up, bottom_reached, down, stepped_down, stepped, amplitude_due, amplitude_clocked, change_due, curve_ended, curve_due, curve_clocked, curve_counted, match_used, match_consumed, rate_clocked, clocked}
 use Rattle.envelope.specs.declared.Envelope.{Envelope}
 use Rattle.envelope.specs.declared.EnvelopeMotion.{EnvelopeMotion}
 use Rattle.envelope.specs.declared.EnvelopeMotion.TheVariants.{Rising, FallingToSustain, FallingToZero}
-use Rattle.envelope.specs.declared.GateEdge.{GateEdge}
-use Rattle.envelope.specs.declared.GateEdge.TheVariants.{Rose, Fell, Still}
 
 module _ (r : ℕ) where
   abbrev Reads : Envelope → Type 0
@@ -16,11 +14,11 @@ module _ (r : ℕ) where
   unfolding divisor_committed
   divisor_reads e h = by_test Reads (eqb e.queued_curve_divisor 0) _ _ (λ _. h) (λ _. h)
 
-  edge_reads : (g : GateEdge) (e : Envelope) → Reads e → Reads (requested_on g e)
+  edge_reads : (g : Option Bool) (e : Envelope) → Reads e → Reads (requested_on g e)
   unfolding requested_on
-  edge_reads Rose e h = h
-  edge_reads Fell e h = h
-  edge_reads Still e h = h
+  edge_reads (Some true) e h = h
+  edge_reads (Some false) e h = h
+  edge_reads None e h = h
 
   gate_reads : (e : Envelope) → Reads e → Reads (gate_sampled e)
   unfolding gate_sampled

@@ -1,2 +1,1 @@
 pub mod Envelope
-pub mod Sets

@@ -3,32 +3,23 @@
 #![tactic(auto)]
 
 ghost use Rattle.std.specs.Prelude.{◌≡◌};
-ghost use Rattle.envelope.specs.Sets.{set_motion, set_requested_motion, set_motion_delay};
-ghost use Rattle.envelope.specs.Envelope.{period_of, is_rising, rising_rate_selected, rate_in_force, target_refreshed, divisor_committed, edge, advanced, gate_sampled, motion_taken, motion_committed, divisor_for, divisor_selected, stepped_up, stepped_down, stepped, amplitude_due, amplitude_clocked, curve_ended, curve_due, curve_clocked, curve_counted, match_used, match_consumed, level_read, rate_clocked, clocked, quiescent, fresh_gate, fresh, reset, attack_decay_set, sustain_release_set, gate_set};
+ghost use Rattle.envelope.specs.Envelope.{period_of, rising_rate_selected, rate_in_force, target_refreshed, divisor_committed, edge, advanced, gate_sampled, motion_taken, motion_committed, divisor_for, divisor_selected, stepped_up, stepped_down, stepped, amplitude_due, amplitude_clocked, curve_ended, curve_due, curve_clocked, curve_counted, match_used, match_consumed, level_read, rate_clocked, clocked, quiescent, fresh_gate, fresh, reset, attack_decay_set, sustain_release_set, gate_set};
 
-#[derive(Clone, Copy)]
+#[derive(Clone, Copy, PartialEq, Eq, Debug)]
 pub enum EnvelopeMotion {
     Rising,
     FallingToSustain,
     FallingToZero,
 }
 
-// The Rust's `Option<bool>`: Some(true), Some(false), None.
-#[derive(Clone, Copy)]
-pub enum GateEdge {
-    Rose,
-    Fell,
-    Still,
-}
-
-#[derive(Clone, Copy)]
+#[derive(Clone, Copy, PartialEq, Eq, Debug)]
 pub struct GateHistory {
     pub input: bool,
     pub stage_a: bool,
     pub stage_b: bool,
 }
 
-#[derive(Clone, Copy)]
+#[derive(Clone, Copy, PartialEq, Eq, Debug)]
 pub struct Envelope {
     pub volume: u8,
     pub rise_rate: u8,
@@ -55,31 +46,20 @@ const ENVELOPE_RATE_PERIODS: [u16; 16] = [
     9, 32, 63, 95, 149, 220, 267, 313, 392, 977, 1954, 3126, 3907, 11720, 19532, 31251,
 ];
 
+#[tactic(auto, unfolding(crate::specs::Envelope::period_of, crate::specs::Envelope::periods))]
 pub fn envelope_rate_period(rate: u8) -> u16
     ensures { result ≡ period_of rate }
 {
-    let low = (rate % 16) as usize;
-    ENVELOPE_RATE_PERIODS[low]
+    ENVELOPE_RATE_PERIODS[(rate % 16) as usize]
 }
 
-// The Rust's `== EnvelopeMotion::Rising`.
-fn is_rising(motion: EnvelopeMotion) -> bool
-    ensures { result ≡ is_rising motion }
-{
-    match motion {
-        EnvelopeMotion::Rising => true,
-        EnvelopeMotion::FallingToSustain => false,
-        EnvelopeMotion::FallingToZero => false,
-    }
-}
-
-// The match in the Rust's `select_curve_divisor`.
+// The match in the Rust's `select_curve_divisor`; 0 is none, since the Rust's field `queued_curve_divisor` says so.
+#[tactic(auto, unfolding(crate::specs::Envelope::divisor_for))]
 fn divisor_for(volume: u8) -> u8
     ensures { result ≡ divisor_for volume }
 {
     match volume {
-        0xff => 1,
-        0x00 => 1,
+        0xff | 0x00 => 1,
         0x5d => 2,
         0x36 => 4,
         0x1a => 8,
@@ -100,51 +80,45 @@ impl GateHistory {
         }
     }
 
-    // The Rust's `advance` in two: what it gives, and what it leaves.
-    fn edge(self) -> GateEdge
+    // The Rust's `advance` in two, since it goes by value: what it gives, and what it leaves.
+    fn edge(self) -> Option<bool>
         ensures { result ≡ edge self }
     {
-        if self.stage_a {
-            if self.stage_b {
-                return GateEdge::Still;
-            }
-            return GateEdge::Rose;
+        match (self.stage_a, self.stage_b) {
+            (true, false) => Some(true),
+            (false, true) => Some(false),
+            _ => None,
         }
-        if self.stage_b {
-            return GateEdge::Fell;
-        }
-        GateEdge::Still
     }
 
     fn advance(self) -> Self
         ensures { result ≡ advanced self }
     {
         Self {
-            input: self.input,
             stage_a: self.input,
             stage_b: self.stage_a,
+            ..self
         }
     }
 }
 
 impl Envelope {
+    #[tactic(auto, using(crate::proofs::Periods::period_some), unfolding(crate::specs::Envelope::fresh))]
     pub fn new() -> Self
         ensures { result ≡ fresh }
     {
-        let gate = GateHistory::new();
-        let target = envelope_rate_period(0) - 1;
         Self {
             volume: 0xaa,
             rise_rate: 0,
             decay_rate: 0,
             hold_level: 0,
             fall_rate: 0,
-            gate,
+            gate: GateHistory::new(),
             motion: EnvelopeMotion::FallingToZero,
             requested_motion: EnvelopeMotion::FallingToZero,
             motion_delay: 0,
             rate_phase: 0,
-            rate_target_phase: target,
+            rate_target_phase: envelope_rate_period(0) - 1,
             matched_rate: false,
             amplitude_delay: 0,
             curve_delay: 0,
@@ -156,17 +130,20 @@ impl Envelope {
         }
     }
 
+    #[tactic(auto, unfolding(crate::specs::Envelope::reset))]
     pub fn reset(self) -> Self
         ensures { result ≡ reset self }
     {
-        let mut e = Envelope::new();
-        e.volume = self.volume;
-        e.readback = self.volume;
-        e.rate_phase = self.rate_phase;
-        e.floor_hold = self.volume == 0;
-        e
+        Self {
+            volume: self.volume,
+            readback: self.volume,
+            rate_phase: self.rate_phase,
+            floor_hold: self.volume == 0,
+            ..Self::new()
+        }
     }
 
+    #[tactic(auto, unfolding(crate::specs::Envelope::attack_decay_set))]
     pub fn set_attack_decay(mut self, value: u8) -> Self
         ensures { result ≡ attack_decay_set self value }
     {
@@ -175,6 +152,7 @@ impl Envelope {
         self.refresh_rate_target_phase()
     }
 
+    #[tactic(auto, unfolding(crate::specs::Envelope::sustain_release_set))]
     pub fn set_sustain_release(mut self, value: u8) -> Self
         ensures { result ≡ sustain_release_set self value }
     {
@@ -189,21 +167,18 @@ impl Envelope {
         self.gate.input
     }
 
+    #[tactic(auto, unfolding(crate::specs::Envelope::gate_set))]
     pub fn set_gate(mut self, gate: bool) -> Self
         ensures { result ≡ gate_set self gate }
     {
-        let high = self.gate.input;
-        self.gate.input = gate;
-        if gate {
-            if high {
-                return self.refresh_rate_target_phase();
-            }
+        if gate && !self.gate.input {
             self.floor_hold = false;
-            return self.refresh_rate_target_phase();
         }
+        self.gate.input = gate;
         self.refresh_rate_target_phase()
     }
 
+    #[tactic(auto, unfolding(crate::specs::Envelope::clocked))]
     pub fn clock(mut self) -> Self
         ensures { result ≡ clocked self }
     {
@@ -221,28 +196,17 @@ impl Envelope {
     }
 
     // The test at the head of the Rust's `clock`.
+    #[tactic(auto, unfolding(crate::specs::Envelope::quiescent))]
     pub fn quiescent(self) -> bool
         ensures { result ≡ quiescent self }
     {
-        if self.queued_curve_divisor != 0 {
-            return false;
-        }
-        if self.gate.input != self.gate.stage_a {
-            return false;
-        }
-        if self.gate.stage_a != self.gate.stage_b {
-            return false;
-        }
-        if self.motion_delay != 0 {
-            return false;
-        }
-        if self.amplitude_delay != 0 {
-            return false;
-        }
-        if self.curve_delay != 0 {
-            return false;
-        }
-        !self.matched_rate
+        self.queued_curve_divisor == 0
+            && self.gate.input == self.gate.stage_a
+            && self.gate.stage_a == self.gate.stage_b
+            && self.motion_delay == 0
+            && self.amplitude_delay == 0
+            && self.curve_delay == 0
+            && !self.matched_rate
     }
 
     // `clock` where its first test holds, so that a loop calls only its long way.
@@ -253,169 +217,113 @@ impl Envelope {
         self.clock_rate_sequence()
     }
 
+    #[tactic(auto, unfolding(crate::specs::Envelope::divisor_committed))]
     fn commit_curve_divisor(mut self) -> Self
         ensures { result ≡ divisor_committed self }
     {
-        if self.queued_curve_divisor == 0 {
-            return self;
+        if self.queued_curve_divisor != 0 {
+            self.curve_divisor = self.queued_curve_divisor;
+            self.queued_curve_divisor = 0;
         }
-        self.curve_divisor = self.queued_curve_divisor;
-        self.queued_curve_divisor = 0;
         self
     }
 
-    // A field that is an enum is not stored to: the struct is written anew.
-    fn with_motion(
-        self,
-        motion: EnvelopeMotion,
-        requested_motion: EnvelopeMotion,
-        motion_delay: u8,
-    ) -> Self
-        ensures { result ≡ set_motion_delay (set_requested_motion (set_motion self motion) requested_motion) motion_delay }
-    {
-        let gate = self.gate;
-        Self {
-            volume: self.volume,
-            rise_rate: self.rise_rate,
-            decay_rate: self.decay_rate,
-            hold_level: self.hold_level,
-            fall_rate: self.fall_rate,
-            gate,
-            motion,
-            requested_motion,
-            motion_delay,
-            rate_phase: self.rate_phase,
-            rate_target_phase: self.rate_target_phase,
-            matched_rate: self.matched_rate,
-            amplitude_delay: self.amplitude_delay,
-            curve_delay: self.curve_delay,
-            curve_count: self.curve_count,
-            curve_divisor: self.curve_divisor,
-            queued_curve_divisor: self.queued_curve_divisor,
-            floor_hold: self.floor_hold,
-            readback: self.readback,
-        }
-    }
-
+    #[tactic(auto, unfolding(crate::specs::Envelope::gate_sampled, crate::specs::Envelope::requested_on))]
     fn sample_gate_transition(mut self) -> Self
         ensures { result ≡ gate_sampled self }
     {
-        let gate = self.gate;
-        let motion = self.motion;
-        let edge = gate.edge();
-        let next = gate.advance();
-        self.gate = next;
+        let edge = self.gate.edge();
+        self.gate = self.gate.advance();
         match edge {
-            GateEdge::Rose => self.with_motion(motion, EnvelopeMotion::Rising, 2),
-            GateEdge::Fell => {
-                if is_rising(motion) {
-                    return self.with_motion(motion, EnvelopeMotion::FallingToZero, 2);
-                }
-                self.with_motion(motion, EnvelopeMotion::FallingToZero, 1)
+            Some(true) => {
+                self.requested_motion = EnvelopeMotion::Rising;
+                self.motion_delay = 2;
             }
-            GateEdge::Still => self,
+            Some(false) => {
+                self.requested_motion = EnvelopeMotion::FallingToZero;
+                self.motion_delay = if self.motion == EnvelopeMotion::Rising {
+                    2
+                } else {
+                    1
+                };
+            }
+            None => {}
         }
+        self
     }
 
     // The Rust's early return at delay 1 leaves what the way round it leaves.
+    #[tactic(auto, unfolding(crate::specs::Envelope::motion_committed, crate::specs::Envelope::motion_taken))]
     fn commit_requested_motion(mut self) -> Self
         ensures { result ≡ motion_committed self }
     {
         if self.motion_delay == 0 {
             return self;
         }
-        self.motion_delay = self.motion_delay - 1;
-        self.take_motion().refresh_rate_target_phase()
-    }
-
-    // Of `commit_requested_motion`.
-    fn take_motion(self) -> Self
-        ensures { result ≡ motion_taken self }
-    {
-        let requested = self.requested_motion;
+        self.motion_delay -= 1;
         if self.motion_delay == 0 {
-            return self.with_motion(requested, requested, self.motion_delay);
+            self.motion = self.requested_motion;
         }
-        self
+        self.refresh_rate_target_phase()
     }
 
+    #[tactic(auto, unfolding(crate::specs::Envelope::amplitude_clocked, crate::specs::Envelope::amplitude_due))]
     fn clock_amplitude_path(mut self) -> Self
         ensures { result ≡ amplitude_clocked self }
     {
         if self.amplitude_delay == 0 {
             return self;
         }
-        self.amplitude_delay = self.amplitude_delay - 1;
-        self.amplitude_due()
-    }
-
-    // This and the next three are of `clock_amplitude_path`.
-    fn amplitude_due(self) -> Self
-        ensures { result ≡ amplitude_due self }
-    {
-        if self.amplitude_delay != 0 {
-            return self;
-        }
-        if self.floor_hold {
+        self.amplitude_delay -= 1;
+        if self.amplitude_delay != 0 || self.floor_hold {
             return self;
         }
         self.step()
     }
 
+    // This and the next two are of `clock_amplitude_path`.
+    #[tactic(auto, unfolding(crate::specs::Envelope::stepped))]
     fn step(self) -> Self
         ensures { result ≡ stepped self.motion self }
     {
-        let motion = self.motion;
-        match motion {
+        match self.motion {
             EnvelopeMotion::Rising => self.step_up(),
-            EnvelopeMotion::FallingToSustain => {
-                if self.volume == self.hold_level {
-                    return self;
-                }
-                self.step_down()
-            }
-            EnvelopeMotion::FallingToZero => self.step_down(),
+            EnvelopeMotion::FallingToSustain if self.volume == self.hold_level => self,
+            EnvelopeMotion::FallingToSustain | EnvelopeMotion::FallingToZero => self.step_down(),
         }
     }
 
+    #[tactic(auto, unfolding(crate::specs::Envelope::stepped_up, crate::specs::Envelope::top_reached, crate::specs::Envelope::up))]
     fn step_up(mut self) -> Self
         ensures { result ≡ stepped_up self }
     {
-        let motion = self.motion;
-        self.volume = std::num::wrapping_add_u8(self.volume, 1);
+        self.volume = self.volume.wrapping_add(1);
         if self.volume == 0xff {
-            return self
-                .with_motion(motion, EnvelopeMotion::FallingToSustain, 3)
-                .select_curve_divisor();
+            self.requested_motion = EnvelopeMotion::FallingToSustain;
+            self.motion_delay = 3;
         }
         self.select_curve_divisor()
     }
 
+    #[tactic(auto, unfolding(crate::specs::Envelope::stepped_down, crate::specs::Envelope::bottom_reached, crate::specs::Envelope::down))]
     fn step_down(mut self) -> Self
         ensures { result ≡ stepped_down self }
     {
-        self.volume = std::num::wrapping_sub_u8(self.volume, 1);
+        self.volume = self.volume.wrapping_sub(1);
         if self.volume == 0 {
             self.floor_hold = true;
-            return self.select_curve_divisor();
         }
         self.select_curve_divisor()
     }
 
+    #[tactic(auto, unfolding(crate::specs::Envelope::curve_clocked, crate::specs::Envelope::curve_due))]
     fn clock_curve_path(mut self) -> Self
         ensures { result ≡ curve_clocked self }
     {
         if self.curve_delay == 0 {
             return self;
         }
-        self.curve_delay = self.curve_delay - 1;
-        self.curve_due()
-    }
-
-    // This and the next are of `clock_curve_path`.
-    fn curve_due(mut self) -> Self
-        ensures { result ≡ curve_due self }
-    {
+        self.curve_delay -= 1;
         if self.curve_delay != 0 {
             return self;
         }
@@ -423,41 +331,35 @@ impl Envelope {
         self.curve_end()
     }
 
+    // Of `clock_curve_path`.
+    #[tactic(auto, unfolding(crate::specs::Envelope::curve_ended))]
     fn curve_end(mut self) -> Self
         ensures { result ≡ curve_ended self }
     {
-        let motion = self.motion;
-        match motion {
-            EnvelopeMotion::Rising => {
-                self.amplitude_delay = 1;
-                self
-            }
-            EnvelopeMotion::FallingToSustain => {
-                if self.volume == self.hold_level {
-                    return self;
-                }
-                self.amplitude_delay = 1;
-                self
-            }
-            EnvelopeMotion::FallingToZero => {
-                self.amplitude_delay = 1;
-                self
-            }
-        }
-    }
-
-    fn consume_rate_match(mut self) -> Self
-        ensures { result ≡ match_consumed self }
-    {
-        if self.matched_rate {
-            self.matched_rate = false;
-            self.rate_phase = 0;
-            return self.use_match();
+        let change_due = match self.motion {
+            EnvelopeMotion::FallingToSustain => self.volume != self.hold_level,
+            EnvelopeMotion::Rising | EnvelopeMotion::FallingToZero => true,
+        };
+        if change_due {
+            self.amplitude_delay = 1;
         }
         self
     }
 
+    #[tactic(auto, unfolding(crate::specs::Envelope::match_consumed))]
+    fn consume_rate_match(mut self) -> Self
+        ensures { result ≡ match_consumed self }
+    {
+        if !self.matched_rate {
+            return self;
+        }
+        self.matched_rate = false;
+        self.rate_phase = 0;
+        self.use_match()
+    }
+
     // This and the next are of `consume_rate_match`.
+    #[tactic(auto, unfolding(crate::specs::Envelope::match_used))]
     fn use_match(mut self) -> Self
         ensures { result ≡ match_used self }
     {
@@ -469,24 +371,21 @@ impl Envelope {
         if self.floor_hold {
             return self;
         }
-        self.curve_count = std::num::wrapping_add_u8(self.curve_count, 1);
+        self.curve_count = self.curve_count.wrapping_add(1);
         self.count_curve()
     }
 
+    #[tactic(auto, unfolding(crate::specs::Envelope::curve_counted))]
     fn count_curve(mut self) -> Self
         ensures { result ≡ curve_counted self }
     {
         if self.curve_count == self.curve_divisor {
-            if self.curve_divisor == 1 {
-                self.curve_delay = 1;
-                return self;
-            }
-            self.curve_delay = 2;
-            return self;
+            self.curve_delay = if self.curve_divisor == 1 { 1 } else { 2 };
         }
         self
     }
 
+    #[tactic(auto, unfolding(crate::specs::Envelope::rate_clocked, crate::specs::Envelope::phase_up))]
     pub fn clock_rate_sequence(mut self) -> Self
         ensures { result ≡ rate_clocked self }
     {
@@ -494,47 +393,48 @@ impl Envelope {
             self.matched_rate = true;
             return self;
         }
-        let next = std::num::wrapping_add_u16(self.rate_phase, 1);
-        if next == 32767 {
+        self.rate_phase = self.rate_phase.wrapping_add(1);
+        if self.rate_phase == 32767 {
             self.rate_phase = 0;
-            return self;
         }
-        self.rate_phase = next;
         self
     }
 
+    #[tactic(auto, unfolding(crate::specs::Envelope::rising_rate_selected))]
     fn rising_rate_selected(self) -> bool
         ensures { result ≡ rising_rate_selected self }
     {
-        let requested = self.requested_motion;
-        let motion = self.motion;
-        if self.motion_delay == 1 {
-            return is_rising(requested);
-        }
-        is_rising(motion)
+        let motion = if self.motion_delay == 1 {
+            self.requested_motion
+        } else {
+            self.motion
+        };
+        motion == EnvelopeMotion::Rising
     }
 
     // The rate of the Rust's `refresh_rate_target_phase`.
+    #[tactic(auto, unfolding(crate::specs::Envelope::rate_in_force))]
     fn rate_in_force(self) -> u8
         ensures { result ≡ rate_in_force self }
     {
         if self.rising_rate_selected() {
-            return self.rise_rate;
+            self.rise_rate
+        } else if self.gate.input {
+            self.decay_rate
+        } else {
+            self.fall_rate
         }
-        if self.gate.input {
-            return self.decay_rate;
-        }
-        self.fall_rate
     }
 
+    #[tactic(auto, using(crate::proofs::Periods::period_some), unfolding(crate::specs::Envelope::target_refreshed))]
     fn refresh_rate_target_phase(mut self) -> Self
         ensures { result ≡ target_refreshed self }
     {
-        let period = envelope_rate_period(self.rate_in_force());
-        self.rate_target_phase = period - 1;
+        self.rate_target_phase = envelope_rate_period(self.rate_in_force()) - 1;
         self
     }
 
+    #[tactic(auto, unfolding(crate::specs::Envelope::divisor_selected))]
     fn select_curve_divisor(mut self) -> Self
         ensures { result ≡ divisor_selected self }
     {

@@ -1,10 +1,10 @@
 -- The floating lines: document 01, 'Oscillator'; FloatingBus of oscillator.rs. Their numbers (Floating) stand apart
 -- from the twelve charges.
-use Rattle.std.specs.Prelude.{ℕ, zero, suc, ◌+◌, ◌-◌, ◌*◌, ◌/◌, ◌%◌, ◌<◌, ◌≤◌, max, Bool, cond, not, ◌&&◌, List, ◌==◌, ◌≢◌, nat_le, slice_index}
+use Rattle.std.specs.Prelude.{ℕ, zero, suc, ◌+◌, ◌-◌, ◌*◌, ◌/◌, ◌%◌, ◌<◌, ◌≤◌, Bool, cond, not, ◌&&◌, List, ◌==◌, ◌≢◌, nat_le, slice_index}
 use Rattle.laws.specs.Build.{build}
 use Rattle.laws.specs.Times.{times}
 use Rattle.laws.specs.Cycle.{never, after}
-use Rattle.laws.specs.Charges.{charged, high_to}
+use Rattle.laws.specs.Charges.{charged, high_to, drained}
 use Rattle.floating.specs.declared.Floating.{Floating}
 use Rattle.floating.specs.declared.FloatingBus.{FloatingBus}
 
@@ -22,7 +22,7 @@ captured code cycle = record {
 
 -- in one leak step a line loses a twelfth of its charge, and at least one (sample)
 abbrev pub lost : ℕ → ℕ
-lost q = q - max (q / 12) 1
+lost q = drained q (q / 12)
 
 -- one leak step, of all twelve lines (sample)
 unfoldable pub leak_step : List ℕ → List ℕ

@@ -5,11 +5,8 @@
 
 ghost use Rattle.std.specs.Prelude.{◌≡◌};
 ghost use Rattle.laws.specs.Times.{times};
-ghost use Rattle.laws.specs.Charges.{charged};
 ghost use Rattle.floating.specs.Floating.{fresh, captured, lost as Floating·lost, leak_step, leaks as Floating·leaks, retained as Floating·retained, leaked_to, sampled, sampled_once};
 ghost use Rattle.floating.specs.Loop.{lines};
-
-use laws::{max, saturating_sub};
 
 #[derive(Clone, Copy)]
 pub struct Floating {
@@ -32,30 +29,12 @@ const WAVEFORM_FLOAT_HOLD_CYCLES: u64 = 1_137_140;
 
 const WAVEFORM_FLOAT_LEAK_INTERVAL_CYCLES: u64 = 8_192;
 
-const WAVEFORM_FLOAT_CHARGE_MAX: u16 = 65_535;
-
 const WAVEFORM_FLOAT_THRESHOLD: u16 = 18_000;
-
-// The loop of `capture`.
-fn charges_of(value: u16) -> [u16; 12]
-    ensures { result ≡ charged value 12 }
-{
-    let mut charge = [0u16; 12];
-    for bit in 0..12usize {
-        charge[bit] = if (value >> bit) % 2 == 0 {
-            0
-        } else {
-            WAVEFORM_FLOAT_CHARGE_MAX
-        };
-    }
-    charge
-}
 
 fn lost(charge: u16) -> u16
     ensures { result ≡ Floating·lost charge }
 {
-    let decrement = max(charge / 12, 1);
-    saturating_sub(charge, decrement)
+    laws::drained(charge, charge / 12)
 }
 
 // The loops of `sample`: one step, all that have elapsed, and the lines that are left.
@@ -85,13 +64,7 @@ fn leak_steps(charge: [u16; 12], elapsed_steps: u64) -> [u16; 12]
 fn retained(charge: [u16; 12]) -> u16
     ensures { result ≡ Floating·retained charge }
 {
-    let mut retained: u16 = 0;
-    for bit in 0..12usize {
-        if charge[bit] >= WAVEFORM_FLOAT_THRESHOLD {
-            retained |= 1 << bit;
-        }
-    }
-    retained & WAVEFORM_MASK
+    (laws::high_of(&charge, WAVEFORM_FLOAT_THRESHOLD) & WAVEFORM_MASK as u32) as u16
 }
 
 impl Floating {
@@ -131,7 +104,7 @@ impl FloatingBus {
         ensures { result ≡ captured value cycle }
     {
         let value = value & WAVEFORM_MASK;
-        let charge = charges_of(value);
+        let charge = laws::charges_of(value as u32);
         let hold_until = std::num::wrapping_add_u64(cycle, WAVEFORM_FLOAT_HOLD_CYCLES);
         let next_leak = std::num::wrapping_add_u64(hold_until, WAVEFORM_FLOAT_LEAK_INTERVAL_CYCLES);
         let numbers = Floating {

@@ -1,5 +1,5 @@
 -- Charges and bits: each stage of the noise register and each floating line holds a charge, and reads as a bit.
-use Rattle.std.specs.Prelude.{ℕ, zero, suc, ◌/◌, ◌%◌, ◌^◌, cond, List, eqb, leb, get_or}
+use Rattle.std.specs.Prelude.{ℕ, zero, suc, ◌-◌, ◌/◌, ◌%◌, ◌^◌, max, cond, List, eqb, leb, get_or}
 use Rattle.std.specs.Int.Bits.{bit_or}
 use Rattle.laws.specs.Build.{build}
 
@@ -20,3 +20,7 @@ high_at threshold charge n word = cond (leb threshold (get_or charge n 0)) (bit_
 unfoldable pub high_to : ℕ → List ℕ → ℕ → ℕ
 high_to threshold charge zero = 0
 high_to threshold charge (suc n) = high_at threshold charge n (high_to threshold charge n)
+
+-- a charge less a part of it, and at least one (load_pulse_coupling of NoiseGenerator, FloatingBus::sample)
+abbrev pub drained : ℕ → ℕ → ℕ
+drained charge part = charge - max part 1

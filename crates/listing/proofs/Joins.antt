@@ -2,16 +2,18 @@
 -- don't fit change nothing; a number of 64 bits has at most 20 digits. Assumes nothing.
 use Prim.Native.Nat.{ℕ, zero, suc, ◌+◌, ◌*◌, ◌/◌, ◌^◌, ◌≤◌, ◌<◌}
 use native.Mathlib.Nat.{add-zero, add-suc, suc-add, pow-succ'}
-use native.Mathlib.Numerals.{add-one}
 use native.Mathlib.Omega.{arith}
 use mathlib.Core.Bool.{Bool, true, false, cond}
-use mathlib.Core.List.{List, [], ◌∷◌, ◌++◌}
-use mathlib.Core.Path.{◌≡◌, refl, ap, ◌∙◌}
+use mathlib.Core.List.{List, [], ◌∷◌, ◌++◌, append_assoc}
+use mathlib.Core.Path.{◌≡◌, refl, ap, sym, ◌∙◌}
 use lib.Dec.{ltb}
-use lib.ListN.{length, set, length-append, take, drop, get_or}
-use lib.Seq.{sets, sets-eq, length-sets, take_at, take-suc, length-take-le}
+use lib.ListN.{length, set, length-append, take, drop}
+use lib.Seq.{sets, sets-eq, length-sets, take_at, drop-drop}
+use borrow.Rule.Slice.PartMut.{put_mid}
 use borrow.Author.Tests.{lt-ltb, le-ltb, ltb-true, ltb-false, le-leb, lt-leb}
-use Rattle.listing.specs.Text.{Put, fits, copied, one, last_digit, digits, decimal}
+use Rattle.listing.specs.declared.Pen.{Pen}
+use Rattle.listing.specs.Pens.{Puts}
+use Rattle.listing.specs.Text.{Put, fits, copied, last_digit, digits, decimal}
 
 pub sets_append : (xs ys l : List ℕ) (i : ℕ) → sets l i (xs ++ ys) ≡ sets (sets l i xs) (i + length xs) ys
 sets_append [] ys l i = rw add-zero
@@ -23,6 +25,21 @@ then {l} {at} {xs} {r} {m} {ys} {q} {n} p o =
       place = omega (arith, length-append xs ys, p.place, o.place);
       bytes = o.bytes ∙ rw (p.bytes, p.place, sets_append xs ys l at);
     }
+
+pub puts_then : {p q r : Pen} {xs ys : List ℕ} {n k : ℕ} → Puts p xs n q → Puts q ys k r → Puts p (xs ++ ys) (n + k) r
+puts_then a b =
+    record {
+      same = b.same ∙ a.same;
+      kept = b.kept ∙ a.kept;
+      put = then a.put b.put;
+      within = omega (arith, a.within, b.within);
+    }
+
+pub puts_none : (p : Pen) (n : ℕ) → Puts p [] n p
+puts_none p n = record { same = refl; kept = refl; put = record { place = omega arith; bytes = refl }; within = omega arith }
+
+pub puts_wider : {p q : Pen} {xs : List ℕ} {n k : ℕ} → Puts p xs n q → n ≤ k → Puts p xs k q
+puts_wider a h = record { same = a.same; kept = a.kept; put = a.put; within = omega (arith, a.within) }
 
 -- a buffer keeps its length
 pub put_kept : (n : ℕ) {l : List ℕ} {at : ℕ} {xs : List ℕ} {r : ℕ} {m : List ℕ} → Put l at xs r m → length l ≡ n → length m ≡ n
@@ -46,22 +63,22 @@ put_copied {l} {xs} {len} o h out at room =
     let e : len ≡ length xs = omega (arith, o.place) in
     rw (take_put o h) (record { place = omega arith; bytes = simp (le-leb (at + length xs) (length out) (omega arith)) })
 
--- one byte more of w
-pub sets_more
-    : (l w out : List ℕ) (at i : ℕ)
-    → i < length w
-    → out ≡ sets l at (take i w)
-    → set out (at + i) (get_or w i 0) ≡ sets l at (take (i + 1) w)
-sets_more l w out at i h e =
-    let k : length (take i w) ≡ i = length-take-le i w (omega arith) in
-    rw (add-one i, take-suc w i 0 h, sets_append (take i w) (one (get_or w i 0)) l at, k, e)
+-- a part of l written over by as many bytes
+pub put_part
+    : (l : List ℕ) (at k : ℕ) (xs ys : List ℕ)
+    → ys ≡ xs
+    → k ≡ length xs
+    → at + length xs ≤ length l
+    → put_mid at k l ys ≡ sets l at xs
+put_part l at k xs ys e h room =
+    rw (e, h, sets-eq xs l at room, drop-drop (length xs) at l) (sym (append_assoc (take at l) xs (drop (at + length xs) l)))
 
 module _ (l : List ℕ) (at : ℕ) (xs : List ℕ) where
   pub no_room : length l < at + length xs → (false ≡ fits l at xs) × (l ≡ copied l at xs)
   no_room h = simp (lt-leb (at + length xs) (length l) h) (refl, refl)
 
-  pub room : {r : ℕ} {m : List ℕ} → at + length xs ≤ length l → Put l at xs r m → (true ≡ fits l at xs) × (m ≡ copied l at xs)
-  room h p = simp (le-leb (at + length xs) (length l) h) (refl, p.bytes)
+  pub room : {m : List ℕ} → at + length xs ≤ length l → m ≡ sets l at xs → (true ≡ fits l at xs) × (m ≡ copied l at xs)
+  room h e = simp (le-leb (at + length xs) (length l) h) (refl, e)
 
 -- any number of digits from the number on gives the same
 digits_enough : (k j n : ℕ) → n < k → n < j → digits k n ≡ digits j n

@@ -5,7 +5,7 @@
 use Rattle.std.specs.Prelude.{ℕ, zero, suc, ◌+◌, ◌-◌, ◌*◌, ◌/◌, ◌%◌, ◌^◌, ◌<◌, min, max, Bool, true, false, cond, not, ◌&&◌, List, [], ◌∷◌, ◌++◌, drop, ◌==◌, bit_and, bit_or, bit_xor, nat_le, nat_lt, slice_index, slice_set}
 use Rattle.laws.specs.Times.{times}
 use Rattle.laws.specs.Cycle.{never, after}
-use Rattle.laws.specs.Charges.{charged, high_to}
+use Rattle.laws.specs.Charges.{charged, high_to, drained as charge_drained}
 use Rattle.noise.specs.declared.Noise.{Noise}
 use Rattle.noise.specs.declared.NoiseGenerator.{NoiseGenerator}
 use Rattle.noise.specs.declared.Stages.{Stages}
@@ -230,7 +230,7 @@ low waveform n = waveform / 2 ^ (11 - n) % 2 == 0
 -- each low line takes a fourteenth of its stage's charge, and at least one: one line, the first n, then all eight
 -- (load_pulse_coupling; NOISE_PULSE_CHARGE_DIVISOR)
 abbrev pub drained : ℕ → ℕ
-drained q = q - max (q / 14) 1
+drained q = charge_drained q (q / 14)
 
 abbrev pub coupled_at : ℕ → ℕ → List ℕ → List ℕ
 coupled_at waveform n charge = cond (low waveform n) (slice_set charge (tap n) (drained (slice_index charge (tap n)))) charge

@@ -6,11 +6,8 @@
 
 ghost use Rattle.std.specs.Prelude.{◌≡◌, ◌<◌};
 ghost use Rattle.laws.specs.Times.{times};
-ghost use Rattle.laws.specs.Charges.{charged};
 ghost use Rattle.noise.specs.Noise.{tap as Noise·tap, shown, fresh, entered_test, sampled as Noise·sampled, left_test, captures as Noise·captures, capture_numbers, clocked, come, transfers as Noise·transfers, feedback as Noise·feedback, shifted_state, incoming as Noise·incoming, shifted_charge, shifted_numbers, transferred, recovered as Noise·recovered, relaxed_stage, relax_step, settled_to, relaxed, relaxed_once, low, drained as Noise·drained, coupled_to, coupled, discharged_to, cleared_to, affects_capture, pulled_numbers, pulled_down, stepped, stepped_once, pulse_load_aperture};
 ghost use Rattle.noise.specs.Loop.{generator, step_due};
-
-use laws::{max, saturating_sub};
 
 #[derive(Clone, Copy)]
 pub struct Noise {
@@ -96,32 +93,11 @@ fn project(state: u32) -> u16
     lines as u16
 }
 
-// The loop of `new`.
-fn charges_of(state: u32) -> [u16; 23]
-    ensures { result ≡ charged state 23 }
-{
-    let mut charge = [0u16; 23];
-    for i in 0..23usize {
-        charge[i] = if (state >> i) % 2 == 0 {
-            0
-        } else {
-            NOISE_TEST_CHARGE_MAX
-        };
-    }
-    charge
-}
-
 // The loop of `leave_test`.
 fn sampled(charge: [u16; 23]) -> u32
     ensures { result ≡ Noise·sampled charge }
 {
-    let mut sampled: u32 = 0;
-    for stage in 0..23usize {
-        if charge[stage] >= NOISE_TEST_LOGIC_THRESHOLD {
-            sampled |= 1 << stage;
-        }
-    }
-    sampled & NOISE_MASK
+    laws::high_of(&charge, NOISE_TEST_LOGIC_THRESHOLD) & NOISE_MASK
 }
 
 fn feedback(captured: u32) -> u32
@@ -165,7 +141,7 @@ pub fn couple(charge: &mut [u16; 23], waveform: u16)
 fn drained(q: u16) -> u16
     ensures { result ≡ Noise·drained q }
 {
-    saturating_sub(q, max(q / NOISE_PULSE_CHARGE_DIVISOR, 1))
+    laws::drained(q, q / NOISE_PULSE_CHARGE_DIVISOR)
 }
 
 // The charges, held or captured, in `pull_down`, where they stand.
@@ -199,10 +175,10 @@ fn recovered(charge: u16) -> u16
 {
     if charge < NOISE_TEST_CHARGE_MAX {
         let remaining = NOISE_TEST_CHARGE_MAX - charge;
-        let increment = max(remaining / 23, 1);
-        return charge + increment;
+        charge + (remaining / 23).max(1)
+    } else {
+        charge
     }
-    charge
 }
 
 impl Stages {
@@ -380,7 +356,7 @@ impl NoiseGenerator {
         ensures { result ≡ fresh }
     {
         let state = NOISE_RESET_VALUE & NOISE_MASK;
-        let charge = charges_of(state);
+        let charge = laws::charges_of(state);
         let visible = project(state);
         let numbers = Noise {
             state,

@@ -1,6 +1,5 @@
 -- The pack of settled tables: document 02, request 3, 'An engine that reads settled tables'.
-use Rattle.std.specs.Prelude.{cond, List, [], ◌∷◌, ℕ, ◌+◌, ◌-◌, ◌*◌, ◌/◌, ◌%◌, eqb, ltb, length, get_or}
-use Rattle.std.proofs.Math.Option.{Option, none, some}
+use Rattle.std.specs.Prelude.{cond, List, [], ◌∷◌, ℕ, ◌+◌, ◌-◌, ◌*◌, ◌/◌, ◌%◌, eqb, ltb, length, get_or, Result, Ok, Err}
 use Rattle.laws.specs.Build.{build}
 use Rattle.refusals.specs.Refusals.{Told, numbered}
 use Rattle.waveforms.specs.Waveforms.{settled, loaded}
@@ -37,8 +36,8 @@ unfoldable pub filled : List ℕ
 filled = build settled_entry pack_length
 
 -- '15 pack not 45,056 entries, at place 0'
-unfoldable pub refusal : ℕ → Option Told
-refusal size = cond (eqb size pack_length) none (some (numbered 15 0))
+unfoldable pub refusal : ℕ → Result (Unit {0}) Told
+refusal size = cond (eqb size pack_length) (Ok tt) (Err (numbered 15 0))
 
 -- 'state and pack as before'
 unfoldable pub pack_after : List ℕ → List ℕ

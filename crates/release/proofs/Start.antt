@@ -8,7 +8,6 @@ use borrow.Author.Tests.{eq-eqb, ne_eqb, eqb-true, eqb-false}
 use lib.Dec.{eqb}
 use Rattle.laws.specs.Times.{times}
 use Rattle.laws.proofs.Cond.{by_test, either}
-use Rattle.envelope.specs.Sets.{set_gate, set_requested_motion, set_motion_delay, set_rate_target_phase}
 use Rattle.envelope.specs.declared.Envelope.{Envelope}
 use Rattle.envelope.specs.declared.EnvelopeMotion.{EnvelopeMotion}
 use Rattle.envelope.specs.declared.EnvelopeMotion.TheVariants.{Rising}
@@ -29,10 +28,12 @@ use Rattle.release.proofs.Timed.{timed_settled}
 -- a note that has begun, its gate input high; level, rates and divisor are those of e
 abbrev begun : Envelope → Bool → Bool → EnvelopeMotion → EnvelopeMotion → ℕ → ℕ → ℕ → Bool → ℕ → ℕ → ℕ → Envelope
 begun e a b m asked delay target phase matched amplitude count readback =
-    set_gate
-    (set_requested_motion
-    (set_motion_delay (set_rate_target_phase (moving true m e phase matched amplitude 0 count e.curve_divisor 0 e.volume false readback) target) delay) asked)
-    (record { input = true; stage_a = a; stage_b = b })
+    record (moving true m e phase matched amplitude 0 count e.curve_divisor 0 e.volume false readback) {
+      gate = record { input = true; stage_a = a; stage_b = b };
+      requested_motion = asked;
+      motion_delay = delay;
+      rate_target_phase = target;
+    }
 
 module _ (e : Envelope) (h : Resting e) where
   abbrev A : ℕ

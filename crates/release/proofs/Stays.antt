@@ -2,6 +2,7 @@
 -- what is held is 0. Assumes nothing.
 use Prim.Native.Nat.{ℕ, zero, suc, ◌-◌}
 use mathlib.Core.Path.{◌≡◌, sym, ◌∙◌, subst}
+use Rattle.std.proofs.Common.{Option, Some, None}
 use mathlib.Core.Bool.{Bool, true, false, cond, false≢true}
 use borrow.Author.Tests.{eq-eqb, eqb-true}
 use lib.Dec.{eqb}
@@ -10,8 +11,6 @@ use Rattle.laws.proofs.Cond.{by_test, either}
 use Rattle.envelope.specs.declared.Envelope.{Envelope}
 use Rattle.envelope.specs.declared.EnvelopeMotion.{EnvelopeMotion}
 use Rattle.envelope.specs.declared.EnvelopeMotion.TheVariants.{Rising, FallingToSustain, FallingToZero}
-use Rattle.envelope.specs.declared.GateEdge.{GateEdge}
-use Rattle.envelope.specs.declared.GateEdge.TheVariants.{Rose, Fell, Still}
 use Rattle.envelope.specs.declared.GateHistory.{GateHistory}
 use Rattle.envelope.specs.Envelope.{rising_rate_selected, target_refreshed, level_read, divisor_committed, requested_on, gate_sampled, motion_taken, motion_committed, divisor_selected, top_reached, up, stepped_up, bottom_reached, down, stepped_down, stepped, amplitude_due, amplitude_clocked, change_due, curve_ended, curve_due, curve_clocked, curve_counted, match_used, match_consumed, rate_clocked, clocked, clocks}
 use Rattle.envelope.proofs.Quiet.{gate_still, motion_still}
@@ -79,11 +78,11 @@ module _ (S : ℕ → Bool → Type 0) where
   abbrev Level : ℕ → Bool → GateHistory → EnvelopeMotion → EnvelopeMotion → ℕ → ℕ → Type 0
   Level x h _ _ _ _ _ = S x h
 
-  edge_keeps : (g : GateEdge) (e : Envelope) → Of Level e → Of Level (requested_on g e)
+  edge_keeps : (g : Option Bool) (e : Envelope) → Of Level e → Of Level (requested_on g e)
   unfolding requested_on
-  edge_keeps Rose e a = a
-  edge_keeps Fell e a = a
-  edge_keeps Still e a = a
+  edge_keeps (Some true) e a = a
+  edge_keeps (Some false) e a = a
+  edge_keeps None e a = a
 
   gate_keeps : (e : Envelope) → Of Level e → Of Level (gate_sampled e)
   unfolding gate_sampled

@@ -9,7 +9,6 @@ use lib.Dec.{eqb}
 use Rattle.laws.specs.Times.{times}
 use Rattle.laws.proofs.Cond.{by_test, either}
 use Rattle.laws.proofs.Times.{times_first, times_add}
-use Rattle.envelope.specs.Sets.{set_rate_phase, set_matched_rate, set_amplitude_delay, set_curve_count}
 use Rattle.envelope.specs.declared.Envelope.{Envelope}
 use Rattle.envelope.specs.declared.EnvelopeMotion.{EnvelopeMotion}
 use Rattle.envelope.specs.declared.EnvelopeMotion.TheVariants.{Rising, FallingToSustain}
@@ -96,7 +95,7 @@ unfolding match_consumed match_used curve_counted
 match_delay e w =
     let P = Delays Unended in
     either P e.matched_rate _ _
-    (either P (rising_rate_selected (set_rate_phase (set_matched_rate e false) 0)) _ _ (λ q. omega arith)
+    (either P (rising_rate_selected (record e { matched_rate = false; rate_phase = 0 })) _ _ (λ q. omega arith)
     (either P e.floor_hold _ _ w (either P (eqb ((e.curve_count + 1) % 256) e.curve_divisor) _ _ w w)))
     w
 
@@ -170,7 +169,7 @@ abbrev Lifts : Envelope → Type 0
 Lifts e = (e.amplitude_delay ≡ 0) ⊎ ((e.matched_rate ≡ false) × (e.amplitude_delay + e.rate_phase ≡ 3))
 
 -- the rising rate is in force
-match_lifts : (e : Envelope) → Rises e → match_used e ≡ set_amplitude_delay (set_curve_count e 0) 2
+match_lifts : (e : Envelope) → Rises e → match_used e ≡ record e { curve_count = 0; amplitude_delay = 2 }
 unfolding match_used rising_rate_selected
 match_lifts e r = simp (r.motion_delay, r.motion)
 
@@ -202,7 +201,7 @@ module _ (v : ℕ) where
   unfolding match_consumed
   idles e r a k =
       by_test (λ (x : Envelope). Next (rate_clocked x)) e.matched_rate _ _
-      (λ _. lift_starts (set_rate_phase (set_matched_rate e false) 0) r refl refl k) (λ _. counts e r a k)
+      (λ _. lift_starts (record e { matched_rate = false; rate_phase = 0 }) r refl refl k) (λ _. counts e r a k)
 
   -- the rest of a clock with a level delay: no match waits, and the phase is below every target
   abbrev Rest : Envelope → Type 0
@@ -251,7 +250,7 @@ module _ (v : ℕ) where
   climbs e r f k =
       ⊎_elim (λ a. subst (λ (x : Envelope). Next (rate_clocked (match_consumed x))) (sym (delays_still e (a, r.curve_delay))) (idles e r a k))
       (λ b. by_test Rest (eqb e.amplitude_delay 0) _ _ (λ z. lift_ends e r.curve_delay b.0 r (eqb-true e.amplitude_delay 0 z) k)
-      (λ z. lift_due (set_amplitude_delay e (e.amplitude_delay - 1)) r b.0 (omega (arith, b.1, eqb-false e.amplitude_delay 0 z)) k))
+      (λ z. lift_due (record e { amplitude_delay = e.amplitude_delay - 1 }) r b.0 (omega (arith, b.1, eqb-false e.amplitude_delay 0 z)) k))
       f
 
 -- one clock of a rise

@@ -9,7 +9,6 @@ use Rattle.laws.proofs.Cond.{by_test, either}
 use Rattle.envelope.specs.declared.Envelope.{Envelope}
 use Rattle.envelope.specs.declared.EnvelopeMotion.{EnvelopeMotion}
 use Rattle.envelope.specs.declared.EnvelopeMotion.TheVariants.{Rising, FallingToSustain, FallingToZero}
-use Rattle.envelope.specs.Sets.{set_gate, set_motion, set_motion_delay}
 use Rattle.envelope.specs.Envelope.{period_of, is_rising, rising_rate_selected, rate_in_force, target_refreshed, level_read, divisor_committed, edge_of, requested, requested_on, gate_sampled, motion_taken, motion_committed, divisor_selected, top_reached, up, stepped_up, bottom_reached, down, stepped_down, stepped, amplitude_due, amplitude_clocked, change_due, curve_ended, curve_due, curve_clocked, curve_counted, match_used, match_consumed, rate_clocked, clocked, quiescent, fresh, reset, attack_decay_set, sustain_release_set, gate_set}
 use Rattle.envelope.proofs.Periods.{period_range}
 use Rattle.envelope.proofs.Quiet.{quiet}
@@ -26,13 +25,13 @@ unfolding divisor_committed rate_in_force rising_rate_selected
 divisor_timed e a = either Timed (eqb e.queued_curve_divisor 0) _ _ a a
 
 -- the samples move on, and a rise or a fall that they show is requested
-sampled_timed : (newer older : Bool) (e : Envelope) → Timed (set_gate e (record { input = e.gate.input; stage_a = newer; stage_b = older })) → Timed (requested_on (edge_of newer older) (set_gate e (record { input = e.gate.input; stage_a = e.gate.input; stage_b = newer })))
+sampled_timed : (newer older : Bool) (e : Envelope) → Timed (record e { gate = record e.gate { stage_a = newer; stage_b = older } }) → Timed (requested_on (edge_of newer older) (record e { gate = record e.gate { stage_a = e.gate.input; stage_b = newer } }))
 unfolding requested_on rate_in_force rising_rate_selected
 sampled_timed true true e a = a
 sampled_timed true false e a = (λ z. absurd (omega (arith, z)), λ _. refl, a.2, a.3)
 sampled_timed false true e a = go (is_rising e.motion)
   where
-    go : (rising : Bool) → Timed (requested (set_gate e (record { input = e.gate.input; stage_a = e.gate.input; stage_b = false })) FallingToZero (cond rising 2 1))
+    go : (rising : Bool) → Timed (requested (record e { gate = record e.gate { stage_a = e.gate.input; stage_b = false } }) FallingToZero (cond rising 2 1))
     go true = (λ z. absurd (omega (arith, z)), λ f. absurd (false≢true f), a.2, a.3)
     go false = (λ z. absurd (omega (arith, z)), λ f. absurd (false≢true f), a.2, a.3)
 sampled_timed false false e a = a
@@ -47,16 +46,16 @@ unfolding target_refreshed rate_in_force rising_rate_selected
 refreshed_timed e s p v = (λ _. refl, s, p, v)
 
 -- a pending motion that is taken was the one asked for
-counted_timed : (e : Envelope) → eqb e.motion_delay 0 ≡ false → Timed e → Timed (target_refreshed (motion_taken (set_motion_delay e (e.motion_delay - 1))))
+counted_timed : (e : Envelope) → eqb e.motion_delay 0 ≡ false → Timed e → Timed (target_refreshed (motion_taken (record e { motion_delay = e.motion_delay - 1 })))
 unfolding motion_taken
 counted_timed e n a = go (eqb (e.motion_delay - 1) 0) refl
   where
     asked : is_rising e.requested_motion ≡ true → e.gate.stage_b ≡ true
     asked h = a.1 (rw n h)
 
-    go : (t : Bool) → eqb (e.motion_delay - 1) 0 ≡ t → Timed (target_refreshed (cond t (set_motion (set_motion_delay e (e.motion_delay - 1)) e.requested_motion) (set_motion_delay e (e.motion_delay - 1))))
-    go true z = refreshed_timed (set_motion (set_motion_delay e (e.motion_delay - 1)) e.requested_motion) (λ h. asked (rw z at h)) a.2 a.3
-    go false z = refreshed_timed (set_motion_delay e (e.motion_delay - 1)) (λ h. asked (rw z at h)) a.2 a.3
+    go : (t : Bool) → eqb (e.motion_delay - 1) 0 ≡ t → Timed (target_refreshed (cond t (record e { motion = e.requested_motion; motion_delay = e.motion_delay - 1 }) (record e { motion_delay = e.motion_delay - 1 })))
+    go true z = refreshed_timed (record e { motion = e.requested_motion; motion_delay = e.motion_delay - 1 }) (λ h. asked (rw z at h)) a.2 a.3
+    go false z = refreshed_timed (record e { motion_delay = e.motion_delay - 1 }) (λ h. asked (rw z at h)) a.2 a.3
 
 motion_timed : (e : Envelope) → Timed e → Timed (motion_committed e)
 unfolding motion_committed

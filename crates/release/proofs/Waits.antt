@@ -7,7 +7,6 @@ use mathlib.Core.Bool.{Bool, true, false, cond}
 use borrow.Author.Tests.{eq-eqb, ne_eqb, eqb-true, eqb-false}
 use lib.Dec.{eqb}
 use Rattle.envelope.specs.declared.Envelope.{Envelope}
-use Rattle.envelope.specs.Sets.{set_readback, set_rate_phase, set_matched_rate}
 use Rattle.envelope.specs.Envelope.{clocked, phase_up, rate_clocked, quiescent}
 use Rattle.envelope.proofs.Quiet.{quiet, quiet_clock}
 use Rattle.release.specs.Release.{FirstMatch}
@@ -43,10 +42,10 @@ module _ (P : ℕ) (least : 9 ≤ P) (most : P ≤ 32767) (p : ℕ) where
 
 -- the envelope at another phase and readback; and the match set
 abbrev pub counting : Envelope → ℕ → ℕ → Envelope
-counting e p b = set_readback (set_rate_phase e p) b
+counting e p b = record e { rate_phase = p; readback = b }
 
 abbrev pub matching : Envelope → Envelope
-matching e = set_matched_rate (counting e e.rate_target_phase e.volume) true
+matching e = record (counting e e.rate_target_phase e.volume) { matched_rate = true }
 
 module _ (e : Envelope) (q : quiescent e ≡ true) where
   counts : (p b : ℕ) → (p ≡ e.rate_target_phase → ⊥) → clocked (counting e p b) ≡ counting e (phase_up p) e.volume
@@ -55,7 +54,7 @@ module _ (e : Envelope) (q : quiescent e ≡ true) where
 
   meets : (p b : ℕ) → p ≡ e.rate_target_phase → clocked (counting e p b) ≡ matching e
   unfolding quiescent rate_clocked
-  meets p b t = quiet_clock (counting e p b) q ∙ simp (eq-eqb _ _ t) (ap (λ (x : ℕ). set_matched_rate (counting e x e.volume) true) t)
+  meets p b t = quiet_clock (counting e p b) q ∙ simp (eq-eqb _ _ t) (ap (λ (x : ℕ). record (counting e x e.volume) { matched_rate = true }) t)
 
   module _ (P : ℕ) (target : e.rate_target_phase ≡ P - 1) (least : 9 ≤ P) (most : P ≤ 32767) (Q : Envelope → Type 0) (holds : (p b : ℕ) → Q (counting e p b)) where
     pub to_match : (n p b : ℕ) → p < 32767 → wait P p ≡ n → Keeps Q (n + 1) (counting e p b) (matching e)

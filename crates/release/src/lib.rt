@@ -9,14 +9,12 @@ ghost use Rattle.envelope.specs.Envelope.{clocks};
 
 use envelope::Envelope;
 
-pub fn clock_times(e: Envelope, n: u32) -> Envelope
+#[tactic(auto, using(laws::proofs::Times::times_none, laws::proofs::Times::times_step))]
+pub fn clock_times(mut e: Envelope, n: u32) -> Envelope
     ensures { result ≡ clocks n e }
 {
-    let mut now = e;
-    let mut i = 0u32;
-    while i < n {
-        now = now.clock();
-        i += 1;
+    for _ in 0..n {
+        e = e.clock();
     }
-    now
+    e
 }

@@ -1,10 +1,7 @@
 -- Settled tables: document 01, 'Line loading' and 'Numbers a caller can get back'; waveforms.rs.
-use Rattle.std.specs.Prelude.{Bool, cond, ◌&&◌, List, ℕ, eqb, ltb, length}
-use Rattle.std.proofs.Math.Option.{Option, none, some}
+use Rattle.std.specs.Prelude.{Bool, cond, ◌&&◌, List, ℕ, eqb, ltb, length, Result, Ok, Err}
 use Rattle.laws.specs.Build.{build}
-use Rattle.refusals.specs.Refusals.{Told, numbered, told as refusals_told}
-use Rattle.tables.specs.declared.Filled.{Filled}
-use Rattle.tables.specs.declared.Filled.TheVariants.{Done, Refused}
+use Rattle.refusals.specs.Refusals.{Told, numbered}
 use Rattle.waveforms.specs.Waveforms.{settled, needs_loading}
 
 -- ---- 'One selection fills a lent table of 4096 entries, entry i being the settled i for every i' (LineArray::generate)
@@ -15,13 +12,8 @@ has_table s = ltb s 16 && needs_loading s
 
 -- number and place of the refusal, if any: 1 'table for a selection above 15 or with under two bits', 2 'table part not
 -- 4096 entries', both at 0; '1 comes before 2'
-unfoldable pub refusal : ℕ → ℕ → Option Told
-refusal s size = cond (has_table s) (cond (eqb size 4096) none (some (numbered 2 0))) (some (numbered 1 0))
-
--- number and place of each answer
-abbrev pub told : Filled → Option Told
-told Done = none
-told (Refused r) = some (refusals_told r)
+unfoldable pub refusal : ℕ → ℕ → Result (Unit {0}) Told
+refusal s size = cond (has_table s) (cond (eqb size 4096) (Ok tt) (Err (numbered 2 0))) (Err (numbered 1 0))
 
 -- 'A refusal changes no state, table or output memory'
 unfoldable pub table_after : ℕ → List ℕ → List ℕ

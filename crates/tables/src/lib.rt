@@ -2,42 +2,25 @@
 #![tactic(auto)]
 
 ghost use Rattle.std.specs.Prelude.{◌≡◌, length};
-ghost use Rattle.tables.specs.Tables.{refusal, told, table_after};
+ghost use Rattle.refusals.specs.Refusals.{tells};
+ghost use Rattle.tables.specs.Tables.{refusal, table_after};
 
 use refusals::{Refusal, Refused};
 use waveforms::LineArray;
 
-#[derive(Clone, Copy)]
-pub enum Filled {
-    Done,
-    Refused(Refused),
-}
-
 // The Rust's `LineArray::generate`, into a lent table.
-pub fn fill(selection: u8, table: &mut [u16]) -> Filled
-    ensures { (told result ≡ refusal selection (length table.old)) × (table.new ≡ table_after selection table.old) }
+pub fn fill(selection: u8, table: &mut [u16]) -> Result<(), Refused>
+    ensures { (tells result ≡ refusal selection (length table.old)) × (table.new ≡ table_after selection table.old) }
 {
-    if 15 < selection {
-        return Filled::Refused(Refused {
-            why: Refusal::NoTable,
-            place: 0,
-        });
-    }
-    if !waveforms::needs_line_loading(selection) {
-        return Filled::Refused(Refused {
-            why: Refusal::NoTable,
-            place: 0,
-        });
+    if 15 < selection || !waveforms::needs_line_loading(selection) {
+        return Err(Refusal::NoTable.at(0));
     }
     if table.len() != 4096 {
-        return Filled::Refused(Refused {
-            why: Refusal::TableLength,
-            place: 0,
-        });
+        return Err(Refusal::TableLength.at(0));
     }
     let line_array = LineArray::new(selection);
-    for value in 0..4096usize {
-        table[value] = line_array.settle(value as u16);
+    for (value, entry) in table.iter_mut().enumerate() {
+        *entry = line_array.settle(value as u16);
     }
-    Filled::Done
+    Ok(())
 }

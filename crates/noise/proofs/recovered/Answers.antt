@@ -7,6 +7,6 @@ pub returns-then-charge-lt-NOISE_TEST_CHARGE_MAX : goal.returns-then-charge-lt-N
 unfolding recovered
 returns-then-charge-lt-NOISE_TEST_CHARGE_MAX c = simp (lt-ltb _ _ c.if-charge-lt-NOISE_TEST_CHARGE_MAX.true) (omega arith)
 
-pub returns : goal.returns
+pub returns-else-charge-lt-NOISE_TEST_CHARGE_MAX : goal.returns-else-charge-lt-NOISE_TEST_CHARGE_MAX
 unfolding recovered
-returns c = simp (le-ltb _ _ c.if-charge-lt-NOISE_TEST_CHARGE_MAX.false)
+returns-else-charge-lt-NOISE_TEST_CHARGE_MAX c = simp (le-ltb _ _ c.if-charge-lt-NOISE_TEST_CHARGE_MAX.false)

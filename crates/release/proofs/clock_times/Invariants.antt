@@ -1,11 +1,7 @@
--- `clock_times` is the envelope after exactly n clocks.
-use Prim.Native.Nat.{◌≤◌, ◌-◌}
-use mathlib.Core.Path.{◌≡◌}
+-- `clock_times`: before clock i the envelope is that after i clocks.
+use Rattle.std.proofs.Common.{◌≡◌}
 use Rattle.envelope.specs.Envelope.{clocks}
 use Rattle.release.proofs.clock_times.Given as goal
 
-abbrev pub invariant-loop-i : goal.invariant-loop-i
-invariant-loop-i l = (l.i ≤ l.n) × (l.now ≡ clocks l.i l.initial.now)
-
-abbrev pub decreases-loop-i : goal.decreases-loop-i
-decreases-loop-i l = l.n - l.i
+abbrev pub invariant-loop : goal.invariant-loop
+invariant-loop l = l.e ≡ clocks l.counter l.initial.e

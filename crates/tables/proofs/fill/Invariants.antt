@@ -1,11 +1,7 @@
 -- `fill` leaves in the lent table the settled code of every value; or refuses with 1, then 2, the table as it was.
-use Prim.Native.Nat.{◌-◌}
 use Rattle.laws.proofs.Build.{Built}
 use Rattle.waveforms.specs.Waveforms.{settled}
 use Rattle.tables.proofs.fill.Given as goal
 
 abbrev pub invariant-loop-value : goal.invariant-loop-value
 invariant-loop-value l = Built (settled l.selection) 4096 l.table l.value
-
-abbrev pub decreases-loop-value : goal.decreases-loop-value
-decreases-loop-value l = 4096 - l.value
