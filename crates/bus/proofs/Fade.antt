@@ -49,7 +49,7 @@ module _ (v n : ℕ) (b : InternalDataBus) (f : Fading v n b) where
     next_age : n + 1 ≡ min (b.age + 1) (2 ^ 32 - 1)
     next_age = omega (arith, young, f.old k)
 
-    before : n + 1 < b.next_expiry → Fading v (n + 1) (record { value = b.value; age = n + 1; next_expiry = b.next_expiry })
+    before : n + 1 < b.next_expiry → Fading v (n + 1) (record b { age = n + 1 })
     before l = record { byte = sym (f.safe (n + 1) l) ∙ later; old = λ _. refl; safe = f.safe }
 
     at : Fading v (n + 1) (record { value = kept holds b.value (n + 1); age = n + 1; next_expiry = next_expiry_for holds (kept holds b.value (n + 1)) (n + 1) })

@@ -54,7 +54,7 @@ clocked_left b = go (eqb b.value 0)
     n = min (b.age + 1) (2 ^ 32 - 1)
 
     young : InternalDataBus
-    young = record { value = b.value; age = n; next_expiry = b.next_expiry }
+    young = record b { age = n }
 
     old : InternalDataBus
     old = record { value = kept holds b.value n; age = n; next_expiry = next_expiry_for holds (kept holds b.value n) n }

@@ -8,15 +8,17 @@ ghost use Rattle.cases.specs.Answers.{mixed as Answers·mixed, refusal as Answer
 ghost use Rattle.cases.specs.Tally.{none, counted};
 
 use refusals::Refused;
+use std::fmt::Write;
 use std::fs::File;
 use std::io::Read;
-use std::{fs, str};
+use std::{fmt, fs, str};
 
-#[derive(Clone, Copy)]
+// How many answers were compared, how many of them differ, and which is the first of those, counted from 1.
+#[derive(Clone, Copy, Debug, PartialEq, Eq)]
 pub struct Tally {
     pub compared: u32,
     pub differ: u32,
-    pub first: u32,
+    pub first: Option<u32>,
 }
 
 impl Tally {
@@ -26,33 +28,36 @@ impl Tally {
         Self {
             compared: 0,
             differ: 0,
-            first: 0,
+            first: None,
         }
     }
 
-    pub fn count(self, same: bool) -> Self
+    pub fn count(mut self, same: bool) -> Self
         ensures { result ≡ counted self same }
     {
-        let compared = std::num::wrapping_add_u32(self.compared, 1);
-        if same {
-            return Self {
-                compared,
-                differ: self.differ,
-                first: self.first,
+        self.compared = self.compared.wrapping_add(1);
+        if !same {
+            self.differ = self.differ.wrapping_add(1);
+            self.first = match self.differ {
+                0 => None,
+                1 => Some(self.compared),
+                _ => self.first,
             };
         }
-        let differ = std::num::wrapping_add_u32(self.differ, 1);
-        if self.differ == 0 {
-            return Self {
-                compared,
-                differ,
-                first: compared,
-            };
-        }
-        Self {
-            compared,
-            differ,
-            first: self.first,
+        self
+    }
+}
+
+impl fmt::Display for Tally {
+    fn fmt<W: fmt::Write>(&self, f: &mut fmt::Formatter<W>) -> fmt::Result {
+        write!(
+            f,
+            "{} answers compared, {} differ",
+            self.compared, self.differ
+        )?;
+        match self.first {
+            Some(first) => write!(f, ", the first is number {first}"),
+            None => Ok(()),
         }
     }
 }
@@ -61,8 +66,8 @@ impl Tally {
 pub fn mixed(digest: u64, field: u64) -> u64
     ensures { result ≡ Answers·mixed digest field }
 {
-    let sum = std::num::wrapping_add_u64(digest, field);
-    let spread = std::num::wrapping_add_u64(sum, sum << 10);
+    let sum = digest.wrapping_add(field);
+    let spread = sum.wrapping_add(sum << 10);
     spread ^ (spread >> 6)
 }
 
@@ -70,25 +75,16 @@ pub fn mixed(digest: u64, field: u64) -> u64
 pub fn refusal(r: Refused) -> u64
     ensures { result ≡ Answers·refusal r }
 {
-    let why = r.why;
-    ((refusals::number(why) as u64) << 32) | (r.place as u64)
+    (u64::from(u8::from(r.why)) << 32) | (r.place as u64)
 }
 
 // Reads until there is no room left, the file ends or a read fails; gives the number of bytes.
 pub fn read_full(file: &mut File, list: &mut [u8]) -> usize
     ensures { IsPrefixLen result list.new }
 {
-    let mut done: usize = 0;
-    while done < list.len() {
-        match file.read(&mut list[done..]) {
-            Ok(n) => {
-                if n == 0 {
-                    break;
-                }
-                done += n;
-            }
-            Err(_) => break,
-        }
+    let mut done = 0;
+    while let Ok(n @ 1..) = file.read(&mut list[done..]) {
+        done += n;
     }
     done
 }
@@ -123,18 +119,20 @@ pub fn load(rt: &HostRuntime, path: &[u8], list: &mut [u8]) -> usize
     }
 }
 
+// Standard output, for `report`, which has no handle.
+#[derive(Clone, Copy)]
+struct Output;
+
+impl fmt::Write for Output {
+    fn write_str(&mut self, s: &str) -> fmt::Result {
+        io::write_all(1, s.as_bytes());
+        Ok(())
+    }
+}
+
 pub fn report(name: &[u8], t: Tally)
     ensures { result ≡ tt }
 {
     io::write_all(1, name);
-    io::write_all(1, b": ");
-    io::print_decimal(1, t.compared as u64);
-    io::write_all(1, b" answers compared, ");
-    io::print_decimal(1, t.differ as u64);
-    io::write_all(1, b" differ");
-    if 0 < t.differ {
-        io::write_all(1, b", the first is number ");
-        io::print_decimal(1, t.first as u64);
-    }
-    io::write_all(1, b"\n");
+    let _told = writeln!(Output, ": {t}");
 }

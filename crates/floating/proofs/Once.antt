@@ -36,7 +36,7 @@ leak_empty once b cycle e =
 -- ---- a leak, said in numbers
 
 module _ (f : Floating) (cycle : ℕ) where
-  leak_come : leaks f cycle ≡ true → (f.value ≡ 0 → ⊥) × (f.next_leak ≤ cycle)
+  pub leak_come : leaks f cycle ≡ true → (f.value ≡ 0 → ⊥) × (f.next_leak ≤ cycle)
   unfolding leaks
   leak_come e =
       let some = and_left (not (eqb f.value 0)) _ e in

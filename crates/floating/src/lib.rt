@@ -5,22 +5,23 @@
 
 ghost use Rattle.std.specs.Prelude.{◌≡◌};
 ghost use Rattle.laws.specs.Times.{times};
-ghost use Rattle.floating.specs.Floating.{fresh, captured, lost as Floating·lost, leak_step, leaks as Floating·leaks, retained as Floating·retained, leaked_to, sampled, sampled_once};
+ghost use Rattle.floating.specs.Floating.{fresh, captured, lost, leak_step, leaks, retained, leaked_to, sampled, sampled_once};
 ghost use Rattle.floating.specs.Loop.{lines};
 
-#[derive(Clone, Copy)]
+#[derive(Clone, Copy, PartialEq, Eq, Debug)]
 pub struct Floating {
     pub value: u16,
     pub hold_until: u64,
     pub next_leak: u64,
 }
 
-#[derive(Clone, Copy)]
+#[derive(Clone, Copy, PartialEq, Eq, Debug)]
 pub struct FloatingBus {
     pub numbers: Floating,
     pub charge: [u16; 12],
 }
 
+// A time that is not set: the original's number and no Option, as a time can come out at it (`never`, laws/specs/Cycle).
 const NEVER: u64 = u64::MAX;
 
 const WAVEFORM_MASK: u16 = 0x0fff;
@@ -32,56 +33,67 @@ const WAVEFORM_FLOAT_LEAK_INTERVAL_CYCLES: u64 = 8_192;
 const WAVEFORM_FLOAT_THRESHOLD: u16 = 18_000;
 
 fn lost(charge: u16) -> u16
-    ensures { result ≡ Floating·lost charge }
+    ensures { result ≡ lost charge }
 {
     laws::drained(charge, charge / 12)
 }
 
 // The loops of `sample`: one step, all that have elapsed, and the lines that are left.
-fn leak_step(charge: [u16; 12]) -> [u16; 12]
-    ensures { result ≡ leak_step charge }
+fn leak_step(charge: &mut [u16; 12])
+    ensures { charge.new ≡ leak_step charge.old }
 {
-    let mut out = charge;
-    for bit in 0..12usize {
-        out[bit] = lost(charge[bit]);
+    for q in charge.iter_mut() {
+        *q = lost(*q);
     }
-    out
 }
 
-fn leak_steps(charge: [u16; 12], elapsed_steps: u64) -> [u16; 12]
-    ensures { result ≡ times elapsed_steps leak_step charge }
+fn leak_steps(charge: &mut [u16; 12], elapsed_steps: u64)
+    ensures { charge.new ≡ times elapsed_steps leak_step charge.old }
 {
-    let mut out = charge;
-    let mut step: u64 = 0;
-    while step < elapsed_steps {
-        let next = leak_step(out);
-        out = next;
-        step += 1;
+    for _ in 0..elapsed_steps {
+        leak_step(charge);
     }
-    out
 }
 
-fn retained(charge: [u16; 12]) -> u16
-    ensures { result ≡ Floating·retained charge }
+fn retained(charge: &[u16; 12]) -> u16
+    ensures { result ≡ retained charge.now }
 {
-    (laws::high_of(&charge, WAVEFORM_FLOAT_THRESHOLD) & WAVEFORM_MASK as u32) as u16
+    (laws::high_of(charge, WAVEFORM_FLOAT_THRESHOLD) & WAVEFORM_MASK as u32) as u16
 }
 
 impl Floating {
     // Whether `sample` leaks. Asked on every clock: the next leak first, which is nearly always still to come.
     pub fn leaks(self, cycle: u64) -> bool
-        ensures { result ≡ Floating·leaks self cycle }
+        ensures { result ≡ leaks self cycle }
     {
-        if cycle < self.next_leak {
-            return false;
+        cycle >= self.next_leak && self.value != 0 && cycle >= self.hold_until
+    }
+
+    // The end of `sample`: the numbers once the lines have leaked to these charges, with their next leak.
+    fn leaked(self, charge: &[u16; 12], next_leak: u64) -> Floating
+        ensures { lines result charge.now ≡ leaked_to self charge.now next_leak }
+    {
+        let value = retained(charge);
+        Floating {
+            value,
+            next_leak: if value == 0 { NEVER } else { next_leak },
+            ..self
         }
-        if self.value == 0 {
-            return false;
+    }
+
+    // A chip's `sample`, which makes one step where one is due or more, on charges that are lent and changed where they
+    // stand.
+    pub fn sample_once_lent(self, cycle: u64, charge: &mut [u16; 12]) -> Floating
+        ensures { lines result charge.new ≡ sampled_once (lines self charge.old) cycle }
+    {
+        if self.leaks(cycle) {
+            leak_step(charge);
+            let at = self
+                .next_leak
+                .wrapping_add(WAVEFORM_FLOAT_LEAK_INTERVAL_CYCLES);
+            return self.leaked(charge, at);
         }
-        if cycle < self.hold_until {
-            return false;
-        }
-        true
+        self
     }
 }
 
@@ -89,14 +101,13 @@ impl FloatingBus {
     pub fn new() -> FloatingBus
         ensures { result ≡ fresh }
     {
-        let numbers = Floating {
-            value: 0,
-            hold_until: NEVER,
-            next_leak: NEVER,
-        };
         FloatingBus {
-            numbers,
-            charge: [0u16; 12],
+            numbers: Floating {
+                value: 0,
+                hold_until: NEVER,
+                next_leak: NEVER,
+            },
+            charge: [0; 12],
         }
     }
 
@@ -104,15 +115,15 @@ impl FloatingBus {
         ensures { result ≡ captured value cycle }
     {
         let value = value & WAVEFORM_MASK;
-        let charge = laws::charges_of(value as u32);
-        let hold_until = std::num::wrapping_add_u64(cycle, WAVEFORM_FLOAT_HOLD_CYCLES);
-        let next_leak = std::num::wrapping_add_u64(hold_until, WAVEFORM_FLOAT_LEAK_INTERVAL_CYCLES);
-        let numbers = Floating {
-            value,
-            hold_until,
-            next_leak,
-        };
-        FloatingBus { numbers, charge }
+        let hold_until = cycle.wrapping_add(WAVEFORM_FLOAT_HOLD_CYCLES);
+        FloatingBus {
+            numbers: Floating {
+                value,
+                hold_until,
+                next_leak: hold_until.wrapping_add(WAVEFORM_FLOAT_LEAK_INTERVAL_CYCLES),
+            },
+            charge: laws::charges_of(value as u32),
+        }
     }
 
     pub fn reset() -> FloatingBus
@@ -125,65 +136,16 @@ impl FloatingBus {
     pub fn sample(self, cycle: u64) -> FloatingBus
         ensures { result ≡ sampled self cycle }
     {
-        let f = self.numbers;
-        let next_leak = f.next_leak;
-        if f.value == 0 {
-            return self;
-        }
-        if cycle < f.hold_until {
-            return self;
-        }
-        if cycle < next_leak {
+        if !self.numbers.leaks(cycle) {
             return self;
         }
         let interval = WAVEFORM_FLOAT_LEAK_INTERVAL_CYCLES;
-        let whole = (cycle - next_leak) / interval;
-        let before = self.charge;
-        let charge = leak_steps(before, whole + 1);
-        let at = std::num::wrapping_add_u64(
-            std::num::wrapping_add_u64(next_leak, whole * interval),
-            interval,
-        );
-        leaked(f, charge, at)
-    }
-}
-
-// The end of `sample`, with its next leak.
-fn leaked(f: Floating, charge: [u16; 12], next_leak: u64) -> FloatingBus
-    ensures { result ≡ leaked_to f charge next_leak }
-{
-    let value = retained(charge);
-    if value == 0 {
-        let numbers = Floating {
-            value,
-            hold_until: f.hold_until,
-            next_leak: NEVER,
-        };
-        return FloatingBus { numbers, charge };
-    }
-    let numbers = Floating {
-        value,
-        hold_until: f.hold_until,
-        next_leak,
-    };
-    FloatingBus { numbers, charge }
-}
-
-impl Floating {
-    // A chip's `sample`, which makes one step where one is due or more, on charges that are lent and changed where they
-    // stand.
-    pub fn sample_once_lent(self, cycle: u64, charge: &mut [u16; 12]) -> Floating
-        ensures { lines result charge.new ≡ sampled_once (lines self charge.old) cycle }
-    {
-        if self.leaks(cycle) {
-            let interval = WAVEFORM_FLOAT_LEAK_INTERVAL_CYCLES;
-            let at = std::num::wrapping_add_u64(self.next_leak, interval);
-            let after = leaked(self, leak_step(*charge), at);
-            let new_charge = after.charge;
-            let numbers = after.numbers;
-            *charge = new_charge;
-            return numbers;
-        }
-        self
+        let next_leak = self.numbers.next_leak;
+        let elapsed_steps = (cycle - next_leak) / interval + 1;
+        let mut charge = self.charge;
+        leak_steps(&mut charge, elapsed_steps);
+        let at = next_leak.wrapping_add(elapsed_steps.wrapping_mul(interval));
+        let numbers = self.numbers.leaked(&charge, at);
+        FloatingBus { numbers, charge }
     }
 }

@@ -1,13 +1,14 @@
 -- `build f n` has n entries, entry k being f k; so has a list that a loop fills from the front, one store a turn.
--- Assumes nothing.
+-- `map` builds the list of f at each entry, and so does a loop that writes f x over each entry x. Assumes nothing.
 use mathlib.Core.Path.{◌≡◌, refl, ap, ap₂, sym, subst⁻¹, ◌∙◌}
-use mathlib.Core.List.{List, [], ◌∷◌, ◌++◌}
+use mathlib.Core.List.{List, [], ◌∷◌, ◌++◌, map}
 use mathlib.Core.Logic.{inl, inr}
 use Prim.Native.Nat.{ℕ, zero, suc, ◌+◌, ◌≤◌, ◌<◌}
 use native.Mathlib.Omega.{arith}
 use native.Mathlib.Nat.{eq-or-lt_of_le, le_of_suc-le-suc, lt-suc_self, lt_trans, not-suc-le-zero}
 use native.Mathlib.Numerals.{add-one}
-use lib.ListN.{length, get_or, take, set, length-set, length-append, get_or-append}
+use lib.ListN.{length, get_or, take, drop, set, length-set, length-append, get_or-append}
+use Rattle.std.proofs.lemmas.List.{ext_get_or, length-map, get_or-map, append-nil, drop_all}
 use lib.Seq.{take-suc-set, take_all, get_or_at}
 use Rattle.laws.specs.Build.{build}
 
@@ -60,3 +61,20 @@ module _ {A : Type 0} (f : ℕ → A) where
 
     pub built_at : (l : List A) (k : ℕ) (d : A) → l ≡ build f n → k < n → get_or l k d ≡ f k
     built_at l k d e h = ap (λ (m : List A). get_or m k d) e ∙ build_at n k d h
+
+-- f at each entry of a list, d being what stands past its end; and the list that a loop leaves which writes f x over
+-- each entry x, once it has passed them all
+module _ {A B : Type 0} (f : A → B) (l : List A) (d : A) (n : ℕ) (h : length l ≡ n) where
+  pub build_map : map f l ≡ build (λ i. f (get_or l i d)) n
+  build_map =
+      ext_get_or (f d) _ _ (length-map l f ∙ h ∙ sym (length_build (λ i. f (get_or l i d)) n))
+      (λ k lt.
+      let below : k < length l = omega (arith, length-map l f) in
+      get_or-map f l k d (f d) below ∙ sym (build_at (λ i. f (get_or l i d)) n k (f d) (omega arith)))
+
+pub mapped_all
+    : {A : Type 0} (f : A → A) (l : List A) (d : A) (n : ℕ) → length l ≡ n
+    → {m : List A} {i : ℕ} → n ≤ i → m ≡ map f (take i l) ++ drop i l → m ≡ build (λ k. f (get_or l k d)) n
+mapped_all f l d n h {m} {i} e w =
+    let past : length l ≤ i = omega arith in
+    w ∙ ap₂ (λ x y. map f x ++ y) (take_all i l past) (drop_all i l past) ∙ append-nil (map f l) ∙ build_map f l d n h

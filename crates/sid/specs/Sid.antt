@@ -1,21 +1,19 @@
 -- The chip: document 01, 'Data bus', 'Oscillator' and 'Numbers a caller can get back'; sid.rs without filter and
 -- converter.
-use Rattle.std.specs.Prelude.{ℕ, zero, suc, ◌/◌, ◌%◌, Bool, cond, not, ◌&&◌, List, [], ◌∷◌, eqb, ltb}
+use Rattle.std.specs.Prelude.{ℕ, zero, suc, ◌/◌, ◌%◌, Bool, cond, not, ◌&&◌, List, [], ◌∷◌, eqb, ltb, Result, Ok, Err}
 use Rattle.laws.specs.Cycle.{after as cycle_after}
 use Rattle.laws.specs.Times.{times}
-use Rattle.refusals.specs.Refusals.{numbered, Told as RefusalsTold, told as refusals_told}
+use Rattle.refusals.specs.Refusals.{Told, numbered}
 use Rattle.bus.specs.Bus.{fresh as bus_fresh, driven, clocked as bus_clocked}
 use Rattle.bus.specs.declared.InternalDataBus.{InternalDataBus}
 use Rattle.envelope.specs.Envelope.{fresh as envelope_fresh, reset as envelope_reset, clocked as envelope_clocked, attack_decay_set, sustain_release_set, gate_set}
 use Rattle.envelope.specs.declared.Envelope.{Envelope}
 use Rattle.oscillator.specs.Ways.{Ways, stepwise}
 use Rattle.oscillator.specs.declared.Oscillator.{Oscillator}
-use Rattle.oscillator.specs.Oscillator.{fresh as oscillator_fresh, clocked_by as oscillator_clocked_by, voiced_by as oscillator_voiced_by, written as the-written-Oscillator, written_frequency_lo, written_frequency_hi, written_pulse_width_lo, written_pulse_width_hi, read_output, synchronised as oscillator_synchronised}
+use Rattle.oscillator.specs.Oscillator.{fresh as oscillator_fresh, clocked_by as oscillator_clocked_by, voiced_by as oscillator_voiced_by, written as oscillator_written, written_frequency_lo, written_frequency_hi, written_pulse_width_lo, written_pulse_width_hi, read_output, synchronised as oscillator_synchronised}
 use Rattle.sid.specs.declared.Voice.{Voice}
 use Rattle.sid.specs.declared.Mos6581.{Mos6581}
 use Rattle.sid.specs.declared.Read.{Read}
-use Rattle.sid.specs.declared.Answer.{Answer}
-use Rattle.sid.specs.declared.Answer.TheVariants.{Code, Level, Held, Refused}
 
 -- ---- 'Pots are 0xff when fresh, set by the host and kept by reset; a chip reset clears the bus byte.' Document 02,
 -- request 8: 'Keep one [cycle] in the chip'; the Rust's oscillators have one each, and all are 0 when fresh or reset
@@ -32,13 +30,11 @@ unfoldable pub reset_voice : Voice → Voice
 reset_voice v = record { oscillator = oscillator_fresh v.oscillator.tone.accumulator; envelope = envelope_reset v.envelope }
 
 unfoldable pub reset : Mos6581 → Mos6581
-reset c = record {
+reset c = record c {
   voice_0 = reset_voice c.voice_0;
   voice_1 = reset_voice c.voice_1;
   voice_2 = reset_voice c.voice_2;
   data_bus = bus_fresh;
-  pot_x = c.pot_x;
-  pot_y = c.pot_y;
   cycle = 0;
 }
 
@@ -55,7 +51,7 @@ written_oscillator o register value cycle =
     (cond (eqb register 1) (written_frequency_hi o value)
     (cond (eqb register 2) (written_pulse_width_lo o value)
     (cond (eqb register 3) (written_pulse_width_hi o value)
-    (cond (eqb register 4) (the-written-Oscillator o value cycle) o))))
+    (cond (eqb register 4) (oscillator_written o value cycle) o))))
 
 -- its control's gate, attack and decay, sustain and release (write, write_voice_control)
 unfoldable pub written_envelope : Envelope → ℕ → ℕ → Envelope
@@ -77,14 +73,11 @@ written_to n v register value cycle = cond (eqb (register / 7) n) (written_voice
 -- 'Every write, also to an unused address, drives the byte'; 'Writes to 0x15 to 0x18 therefore only drive the bus'
 -- (write)
 unfoldable pub written : Mos6581 → ℕ → ℕ → Mos6581
-written c address value = record {
+written c address value = record c {
   voice_0 = written_to 0 c.voice_0 (register address) value c.cycle;
   voice_1 = written_to 1 c.voice_1 (register address) value c.cycle;
   voice_2 = written_to 2 c.voice_2 (register address) value c.cycle;
   data_bus = driven value;
-  pot_x = c.pot_x;
-  pot_y = c.pot_y;
-  cycle = c.cycle;
 }
 
 -- ---- 'Reads of 0x19 to 0x1c (pot X, pot Y, OSC3, ENV3) drive what they return; every other read returns the floating byte and renews nothing.' (read)
@@ -97,7 +90,7 @@ abbrev pub env3 : Mos6581 → ℕ
 env3 c = c.voice_2.envelope.readback
 
 abbrev pub with_bus : Mos6581 → InternalDataBus → Mos6581
-with_bus c b = record { voice_0 = c.voice_0; voice_1 = c.voice_1; voice_2 = c.voice_2; data_bus = b; pot_x = c.pot_x; pot_y = c.pot_y; cycle = c.cycle }
+with_bus c b = record c { data_bus = b }
 
 unfoldable pub read_driven : Mos6581 → ℕ → Read
 read_driven c value = record { chip = with_bus c (driven value); byte = value }
@@ -111,10 +104,10 @@ read_at c address =
 
 -- 'set by the host'
 abbrev pub with_pot_x : Mos6581 → ℕ → Mos6581
-with_pot_x c value = record { voice_0 = c.voice_0; voice_1 = c.voice_1; voice_2 = c.voice_2; data_bus = c.data_bus; pot_x = value; pot_y = c.pot_y; cycle = c.cycle }
+with_pot_x c value = record c { pot_x = value }
 
 abbrev pub with_pot_y : Mos6581 → ℕ → Mos6581
-with_pot_y c value = record { voice_0 = c.voice_0; voice_1 = c.voice_1; voice_2 = c.voice_2; data_bus = c.data_bus; pot_x = c.pot_x; pot_y = value; cycle = c.cycle }
+with_pot_y c value = record c { pot_y = value }
 
 -- ---- 'Tick order: bus; three phases; three envelopes; …' The cycle goes up once, before the phases, and all that
 -- follows in the tick sees the new one (tick; clock_accumulator)
@@ -126,25 +119,23 @@ abbrev pub next_cycle : Mos6581 → ℕ
 next_cycle c = cycle_after c.cycle 1
 
 unfoldable pub clocked_by : Ways → Mos6581 → Mos6581
-clocked_by w c = record {
+clocked_by w c = record c {
   voice_0 = clocked_voice_by w c.voice_0 (next_cycle c);
   voice_1 = clocked_voice_by w c.voice_1 (next_cycle c);
   voice_2 = clocked_voice_by w c.voice_2 (next_cycle c);
   data_bus = bus_clocked c.data_bus;
-  pot_x = c.pot_x;
-  pot_y = c.pot_y;
   cycle = next_cycle c;
 }
 
 -- '… then per voice evaluate, feedback, latch', with the phase of the voice before it in the ring
 unfoldable pub voiced_by : Ways → Voice → ℕ → ℕ → Voice
-voiced_by w v modulator cycle = record { oscillator = oscillator_voiced_by w v.oscillator modulator cycle; envelope = v.envelope }
+voiced_by w v modulator cycle = record v { oscillator = oscillator_voiced_by w v.oscillator modulator cycle }
 
 abbrev pub phase_of : Voice → ℕ
 phase_of v = v.oscillator.tone.accumulator
 
 abbrev pub with_voices : Mos6581 → Voice → Voice → Voice → Mos6581
-with_voices c v w x = record { voice_0 = v; voice_1 = w; voice_2 = x; data_bus = c.data_bus; pot_x = c.pot_x; pot_y = c.pot_y; cycle = c.cycle }
+with_voices c v w x = record c { voice_0 = v; voice_1 = w; voice_2 = x }
 
 -- 'voice 0 seeing voice 2's phase before that voice's feedback'
 unfoldable pub voiced0_by : Ways → Mos6581 → Mos6581
@@ -169,7 +160,7 @@ abbrev pub sync_of : Voice → Bool
 sync_of v = v.oscillator.control.sync_enabled
 
 unfoldable pub synchronised_if : Bool → Voice → Voice
-synchronised_if taken v = cond taken (record { oscillator = oscillator_synchronised v.oscillator; envelope = v.envelope }) v
+synchronised_if taken v = cond taken (record v { oscillator = oscillator_synchronised v.oscillator }) v
 
 -- a voice, the one before it in the ring, and the one before that
 abbrev pub synced : Voice → Voice → Voice → Voice
@@ -223,26 +214,13 @@ level_of v = v.envelope.volume
 abbrev pub held_of : Voice → Bool
 held_of v = v.envelope.floor_hold
 
--- what such a call gives, or number and place of its refusal
-pub data Told : Type 0 where
-  code : ℕ → Told
-  level : ℕ → Told
-  held : Bool → Told
-  refused : RefusalsTold → Told
-
-abbrev pub told : Answer → Told
-told (Code x) = code x
-told (Level x) = level x
-told (Held x) = held x
-told (Refused r) = refused (refusals_told r)
-
 -- the voice of a number; none above 2 is asked for
 unfoldable pub voice_of : Mos6581 → ℕ → Voice
 voice_of c n = cond (eqb n 0) c.voice_0 (cond (eqb n 1) c.voice_1 c.voice_2)
 
 -- 3, 'voice number above 2', at 0
-unfoldable pub named : Mos6581 → ℕ → (Voice → Told) → Told
-named c n give = cond (ltb 2 n) (refused (numbered 3 0)) (give (voice_of c n))
+unfoldable pub named : {A : Type 0} → Mos6581 → ℕ → (Voice → A) → Result A Told
+named c n give = cond (ltb 2 n) (Err (numbered 3 0)) (Ok (give (voice_of c n)))
 
 -- ---- any run of calls
 

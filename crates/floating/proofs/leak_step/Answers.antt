@@ -1,15 +1,23 @@
--- `leak_step` takes a twelfth, and at least one, from each of the twelve charges.
-use Rattle.std.proofs.Common.{get_or, arith, rules}
-use Rattle.laws.proofs.Build.{built_none, built_more, built_all}
+-- `leak_step` takes what a leak step takes from each of the twelve lent charges.
+use Rattle.std.proofs.Common.{◌≡◌, ◌<◌, length, get_or, set, refl, ap, ◌∙◌, arith, rules}
+use Rattle.std.proofs.lemmas.List.{get_or_default}
+use Rattle.std.proofs.lemmas.List.Edits.{map_over_more}
+use Rattle.laws.proofs.Build.{mapped_all}
 use Rattle.floating.specs.Floating.{lost, leak_step}
 use Rattle.floating.proofs.leak_step.Goals as goal
 
-pub loop-bit-init : goal.loop-bit-init
-loop-bit-init c = built_none _ 12 _ (search rules)
+pub loop-q-init : goal.loop-q-init
+loop-q-init c = refl
 
-pub loop-bit-preserved : goal.loop-bit-preserved
-loop-bit-preserved c = built_more (λ i. lost (get_or c.args.charge i 0)) 12 c.loop-bit.invariant (omega arith) _ c.lost.ensures
+pub loop-q-preserved : goal.loop-q-preserved
+loop-q-preserved c =
+    let l = c.loop-q in
+    let below : l.q-index < length c.args.charge.now = omega (arith, c.told-charge, c.loop-q-test.true) in
+    let whole : length l.charge ≡ 12 = search rules in
+    let x = get_or l.charge l.q-index 0 in
+    let same : x ≡ get_or l.charge l.q-index x = get_or_default l.charge l.q-index 0 x (omega (arith, whole, c.loop-q-test.true)) in
+    ap (λ y. set l.charge l.q-index y) c.lost.ensures ∙ map_over_more lost c.args.charge.now l.charge l.q-index x below l.invariant same
 
 pub returns : goal.returns
 unfolding leak_step
-returns c = built_all (λ i. lost (get_or c.args.charge i 0)) 12 c.loop-bit.invariant c.loop-bit-test.false
+returns c = mapped_all lost c.args.charge.now 0 12 c.told-charge c.loop-q-test.false c.loop-q.invariant

@@ -1,11 +1,8 @@
--- `leak_step` takes a twelfth, and at least one, from each of the twelve charges.
-use Rattle.std.proofs.Common.{◌-◌, get_or}
-use Rattle.laws.proofs.Build.{Built}
+-- `leak_step` takes what a leak step takes from each of the twelve lent charges.
+use Rattle.std.proofs.Common.{◌≡◌, ◌++◌, take, drop}
+use Rattle.std.specs.Prelude.{map}
 use Rattle.floating.specs.Floating.{lost}
 use Rattle.floating.proofs.leak_step.Given as goal
 
-abbrev pub invariant-loop-bit : goal.invariant-loop-bit
-invariant-loop-bit l = Built (λ i. lost (get_or l.charge i 0)) 12 l.out l.bit
-
-abbrev pub decreases-loop-bit : goal.decreases-loop-bit
-decreases-loop-bit l = 12 - l.bit
+abbrev pub invariant-loop-q : goal.invariant-loop-q
+invariant-loop-q l = l.charge ≡ map lost (take l.q-index l.initial.charge) ++ drop l.q-index l.initial.charge

@@ -7,8 +7,7 @@ use Rattle.floating.proofs.Floating.sample_once_lent.Goals as goal
 pub returns-then-leaks : goal.returns-then-leaks
 unfolding sampled_once leaked_times times
 returns-then-leaks c =
-    simp (sym c.leaks.ensures ∙ c.if-leaks.true)
-    (c.leaked-after.ensures ∙ simp (c.leak_step.ensures, c.wrapping_add_u64-at.ensures.value))
+    simp (sym c.leaks.ensures ∙ c.if-leaks.true) (c.leaked.ensures ∙ simp c.leak_step.ensures)
 
 pub returns : goal.returns
 unfolding sampled_once

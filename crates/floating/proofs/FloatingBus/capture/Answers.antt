@@ -5,4 +5,4 @@ use Rattle.floating.proofs.FloatingBus.capture.Goals as goal
 
 pub returns : goal.returns
 unfolding captured
-returns c = simp (c.charges_of-charge.ensures, c.wrapping_add_u64-next_leak.ensures.value, c.wrapping_add_u64-hold_until.ensures.value, and_mask c.args.value 12)
+returns c = simp (c.charges_of.ensures, and_mask c.args.value 12)
