@@ -60,6 +60,8 @@ enum Call {
     Fill,
     // An entry of the table filled last; those between two that are told are 0.
     Entry,
+    // No call of the list's: compared as an entry, and the next one as a table's first.
+    Other,
 }
 
 // A record of 6 bytes: the call, the selection, the operand (2), the answer (2).
@@ -79,7 +81,8 @@ impl Record {
                 1 => Call::NeedsLoading,
                 2 => Call::Settled,
                 3 => Call::Fill,
-                _ => Call::Entry,
+                4 => Call::Entry,
+                _ => Call::Other,
             },
             selection: words::u8_at(bytes, 1),
             operand: words::u16_at(bytes, 2),
@@ -103,7 +106,7 @@ impl Record {
             operand,
             answer,
         } = self;
-        let tally = if call == Call::Entry {
+        let tally = if matches!(call, Call::Entry | Call::Other) {
             (next..operand).fold(tally, |tally, at| {
                 tally.count(holds(selection, table, at, 0))
             })
@@ -115,7 +118,7 @@ impl Record {
             Call::NeedsLoading => waveforms::needs_line_loading(selection) == (answer == 1),
             Call::Settled => waveforms::settled_code(selection, operand) == answer,
             Call::Fill => fills_part(selection, table, usize::from(operand), answer),
-            Call::Entry => holds(selection, table, operand, answer),
+            Call::Entry | Call::Other => holds(selection, table, operand, answer),
         })
     }
 }
