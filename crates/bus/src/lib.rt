@@ -21,6 +21,7 @@ pub struct BusClock {
 
 const DATA_BUS_HOLD_CYCLES: [u32; 8] = [12, 26624, 34816, 38912, 7680, 11264, 15360, 43008];
 
+// The greatest number, and no Option: an age is compared with it on each clock, which is to stay one comparison.
 const NO_EXPIRY: u32 = u32::MAX;
 
 #[tactic(auto, using(crate::proofs::Kept::hold_positive), unfolding(crate::specs::Bus::holds))]
@@ -31,7 +32,7 @@ fn hold(bit: usize) -> u32
     DATA_BUS_HOLD_CYCLES[bit].max(1)
 }
 
-// The loop over the lines in the Rust's `clock`.
+// The loop over the lines in the Rust's `clock`, from the highest down.
 #[tactic(auto, using(crate::proofs::Kept::kept_turns))]
 fn retained(value: u8, age: u32) -> u8
     ensures { result ≡ kept holds value age }
