@@ -12,7 +12,7 @@ module _ (b : InternalDataBus) where
   clocked_empty z = simp (eq-eqb b.value 0 z)
 
   module _ (a : ℕ) (k : b.value ≡ 0 → ⊥) (e : a ≡ min (b.age + 1) (2 ^ 32 - 1)) where
-    pub clocked_before : a < b.next_expiry → clocked b ≡ record { value = b.value; age = a; next_expiry = b.next_expiry }
+    pub clocked_before : a < b.next_expiry → clocked b ≡ record b { age = a }
     unfolding clocked aged
     clocked_before l = simp (ne_eqb b.value 0 k, sym e, lt-ltb a b.next_expiry l)
 

@@ -2,7 +2,6 @@
 use Rattle.std.specs.Prelude.{ℕ, ◌+◌, ◌*◌, ◌-◌, ◌/◌, ◌%◌, ◌^◌, min, max, List, [], ◌∷◌, cond, ltb, eqb}
 use Rattle.laws.specs.Times.{times}
 use Rattle.bus.specs.declared.InternalDataBus.{InternalDataBus}
-use Rattle.bus.specs.declared.DrivenRead.{DrivenRead}
 use Rattle.bus.specs.declared.BusClock.{BusClock}
 
 -- 'The holds for bits 0 to 7' (DATA_BUS_HOLD_CYCLES)
@@ -27,19 +26,15 @@ next_expiry_for (h ∷ hs) v n = min (cond (eqb (v % 2) 1) (cond (ltb n h) h no_
 unfoldable pub fresh : InternalDataBus
 fresh = record { value = 0; age = 0; next_expiry = no_expiry }
 
--- 'Every write, also to an unused address, drives the byte'; a driven read too (drive, read_driven)
+-- 'Every write, also to an unused address, drives the byte', and 'Reads of 0x19 to 0x1c … drive what they return'
+-- (drive, read_driven); any other gives the value and leaves the bus as it is (read_floating)
 unfoldable pub driven : ℕ → InternalDataBus
 driven v = record { value = v; age = 0; next_expiry = next_expiry_for holds v 0 }
-
--- 'Reads of 0x19 to 0x1c … drive what they return' (read_driven);
--- any other gives the value and leaves the bus as it is (read_floating)
-unfoldable pub driven_read : ℕ → DrivenRead
-driven_read v = record { bus = driven v; byte = v }
 
 -- the bus with a byte that is not 0 once its age is n: bits go only where the next expiry has come (clock)
 unfoldable pub aged : InternalDataBus → ℕ → InternalDataBus
 aged b n =
-    cond (ltb n b.next_expiry) (record { value = b.value; age = n; next_expiry = b.next_expiry })
+    cond (ltb n b.next_expiry) (record b { age = n })
     (record { value = kept holds b.value n; age = n; next_expiry = next_expiry_for holds (kept holds b.value n) n })
 
 -- 'age stops at value 0', and at the largest number (clock)

@@ -1,22 +1,15 @@
 // The data bus (document 01, 'Data bus'; bus.rs): a byte whose bits fade, each after its own hold.
-// First the core, by value; then the Rust's methods, thin over it, on a bus that is lent and changed where it stands;
-// last, for a caller whose bus is part of a larger state, one function a method that lends it a bus by value.
+// First the core, by value; then the Rust's methods, thin over it, on a bus that is lent and changed where it stands.
 #![tactic(auto)]
 
 ghost use Rattle.std.specs.Prelude.{◌≡◌, ◌+◌, ◌-◌, ◌^◌, ◌<◌, min, max, get_or};
-ghost use Rattle.bus.specs.Bus.{holds, kept, next_expiry_for, fresh, driven, driven_read, clocked, lost, bus_clock, to_expiry};
+ghost use Rattle.bus.specs.Bus.{holds, kept, next_expiry_for, fresh, driven, clocked, lost, bus_clock, to_expiry};
 
 #[derive(Clone, Copy, Debug, PartialEq, Eq)]
 pub struct InternalDataBus {
     pub value: u8,
     pub age: u32,
     pub next_expiry: u32,
-}
-
-#[derive(Clone, Copy, Debug, PartialEq, Eq)]
-pub struct DrivenRead {
-    pub bus: InternalDataBus,
-    pub byte: u8,
 }
 
 // What a clock gives: the bus after it, and the bits that it lost.
@@ -28,6 +21,7 @@ pub struct BusClock {
 
 const DATA_BUS_HOLD_CYCLES: [u32; 8] = [12, 26624, 34816, 38912, 7680, 11264, 15360, 43008];
 
+// The greatest number, and no Option: an age is compared with it on each clock, which is to stay one comparison.
 const NO_EXPIRY: u32 = u32::MAX;
 
 #[tactic(auto, using(crate::proofs::Kept::hold_positive), unfolding(crate::specs::Bus::holds))]
@@ -38,7 +32,7 @@ fn hold(bit: usize) -> u32
     DATA_BUS_HOLD_CYCLES[bit].max(1)
 }
 
-// The loop over the lines in the Rust's `clock`.
+// The loop over the lines in the Rust's `clock`, from the highest down.
 #[tactic(auto, using(crate::proofs::Kept::kept_turns))]
 fn retained(value: u8, age: u32) -> u8
     ensures { result ≡ kept holds value age }
@@ -165,35 +159,7 @@ impl InternalDataBus {
     }
 }
 
-// A bus by value, lent to its own methods: for a caller whose bus is part of a larger state.
-pub fn lent_reset(mut b: InternalDataBus) -> InternalDataBus
-    ensures { result ≡ fresh }
-{
-    b.reset();
-    b
-}
-
-pub fn lent_drive(mut b: InternalDataBus, value: u8) -> InternalDataBus
-    ensures { result ≡ driven value }
-{
-    b.drive(value);
-    b
-}
-
-#[tactic(auto, unfolding(crate::specs::Bus::driven_read))]
-pub fn lent_read_driven(mut b: InternalDataBus, value: u8) -> DrivenRead
-    ensures { result ≡ driven_read value }
-{
-    let byte = b.read_driven(value);
-    DrivenRead { bus: b, byte }
-}
-
-pub fn lent_read_floating(b: InternalDataBus) -> u8
-    ensures { result ≡ b.value }
-{
-    b.read_floating()
-}
-
+// A bus by value, lent to its own method: for a caller whose bus is part of a larger state.
 // `clocked` promises the same, but in the loops of `run` and `tick` it cost 4 to 9 % in rows of `make bench`.
 pub fn lent_clock(mut b: InternalDataBus) -> InternalDataBus
     ensures { result ≡ clocked b }

@@ -4,72 +4,56 @@
 // (4) and next expiry (4) after it.
 #![tactic(auto)]
 
-use bus::{DrivenRead, InternalDataBus};
+use bus::InternalDataBus;
 use cases::Tally;
 
-// The bus after so many clocks, and the bits that the last of them lost.
-fn clocks(b: InternalDataBus, n: u32) -> DrivenRead {
-    let mut x = b;
-    let mut byte: u8 = 0;
-    let mut left = n;
-    while 0 < left {
-        let clocked = x.clock_lost();
-        x = clocked.bus;
-        byte = clocked.lost;
-        left = left - 1;
+// The bits that the last of so many clocks lost.
+fn clock_times(bus: &mut InternalDataBus, n: u32) -> u8 {
+    let mut lost = 0;
+    for _ in 0..n {
+        lost = bus.clock();
     }
-    DrivenRead { bus: x, byte }
+    lost
 }
 
-fn made(call: u8, operand: u32, b: InternalDataBus, after: InternalDataBus) -> DrivenRead {
+// The byte that a call gave, 0 where it gives none.
+fn made(bus: &mut InternalDataBus, call: u8, operand: u32, after: InternalDataBus) -> u8 {
     let byte = (operand % 256) as u8;
     match call {
-        0 => DrivenRead {
-            bus: bus::lent_reset(b),
-            byte: 0,
-        },
-        1 => DrivenRead {
-            bus: bus::lent_drive(b, byte),
-            byte: 0,
-        },
-        2 => bus::lent_read_driven(b, byte),
-        3 => DrivenRead {
-            bus: b,
-            byte: bus::lent_read_floating(b),
-        },
-        4 => clocks(b, operand),
-        _ => DrivenRead {
-            bus: after,
-            byte: 0,
-        },
+        0 => {
+            bus.reset();
+            0
+        }
+        1 => {
+            bus.drive(byte);
+            0
+        }
+        2 => bus.read_driven(byte),
+        3 => bus.read_floating(),
+        4 => clock_times(bus, operand),
+        _ => {
+            *bus = after;
+            0
+        }
     }
-}
-
-fn same(a: InternalDataBus, b: InternalDataBus) -> bool {
-    a.value == b.value && a.age == b.age && a.next_expiry == b.next_expiry
 }
 
 fn replay(list: &[u8]) -> Tally {
     let mut tally = Tally::new();
-    let mut b = InternalDataBus::new();
-    let mut rest = list.len() / 15;
-    let mut at: usize = 0;
-    while 0 < rest {
+    let mut bus = InternalDataBus::new();
+    for record in list.chunks_exact(15) {
         let after = InternalDataBus {
-            value: words::u8_at(list, at + 6),
-            age: words::u32_at(list, at + 7),
-            next_expiry: words::u32_at(list, at + 11),
+            value: words::u8_at(record, 6),
+            age: words::u32_at(record, 7),
+            next_expiry: words::u32_at(record, 11),
         };
         let gave = made(
-            words::u8_at(list, at),
-            words::u32_at(list, at + 1),
-            b,
+            &mut bus,
+            words::u8_at(record, 0),
+            words::u32_at(record, 1),
             after,
         );
-        b = gave.bus;
-        tally = tally.count(gave.byte == words::u8_at(list, at + 5) && same(b, after));
-        at = at + 15;
-        rest = rest - 1;
+        tally = tally.count(gave == words::u8_at(record, 5) && bus == after);
     }
     tally
 }

@@ -3,36 +3,24 @@
 #![tactic(auto)]
 
 use listing::TEXT;
-use score::{Checked, FieldRead};
 
 // A write that fails ends the text.
 fn print_fields(s: &[u8]) {
     let mut line = [0u8; TEXT];
     let mut at: usize = 0;
-    loop {
-        match score::field_at(s, at) {
-            FieldRead::Refused(_) => {
-                return;
-            }
-            FieldRead::Got(f, next) => {
-                let n = listing::field_line(&mut line, f);
-                if !io::write_all(1, &line[..n]) {
-                    return;
-                }
-                let what = f.what;
-                if what.is_end() {
-                    return;
-                }
-                at = next;
-            }
+    while let Ok((f, next)) = score::field_at(s, at) {
+        let n = listing::field_line(&mut line, f);
+        if !io::write_all(1, &line[..n]) || f.what.is_end() {
+            return;
         }
+        at = next;
     }
 }
 
 fn print_score(s: &[u8]) {
     match score::check_score(s) {
-        Checked::Refused(r) => script::print_refused(1, r),
-        Checked::Accepted { clocks: _ } => print_fields(s),
+        Ok(_) => print_fields(s),
+        Err(r) => script::print_refused(1, r),
     }
 }
 

@@ -7,8 +7,8 @@ ghost use Rattle.std.specs.Prelude.{◌≡◌, length};
 
 use cases::Tally;
 use envelope::Envelope;
-use sid::{Mos6581, Voice};
-use tail::{Free, HeldRun, Ran};
+use sid::Mos6581;
+use tail::HeldRun;
 
 const DIVISORS: [u8; 6] = [1, 2, 4, 8, 16, 30];
 
@@ -31,78 +31,62 @@ fn shown(chip: Mos6581) -> Answered {
 
 fn forecast(chip: Mos6581, voice: u8) -> u64 {
     match tail::forecast(chip, voice) {
-        Free::In { clocks } => clocks as u64,
-        Free::Refused(r) => cases::refusal(r),
-    }
-}
-
-fn voice_with(v: Voice, envelope: Envelope) -> Voice {
-    let oscillator = v.oscillator;
-    Voice {
-        oscillator,
-        envelope,
+        Ok(clocks) => clocks as u64,
+        Err(refused) => cases::refusal(refused),
     }
 }
 
 // The chip with an envelope of its own in a voice.
-fn put(chip: Mos6581, voice: u8, envelope: Envelope) -> Mos6581 {
-    let v_0 = chip.voice_0;
-    let v_1 = chip.voice_1;
-    let v_2 = chip.voice_2;
-    let mut after = chip;
+fn put(mut chip: Mos6581, voice: u8, envelope: Envelope) -> Mos6581 {
     match voice {
-        0 => after.voice_0 = voice_with(v_0, envelope),
-        1 => after.voice_1 = voice_with(v_1, envelope),
-        _ => after.voice_2 = voice_with(v_2, envelope),
+        0 => chip.voice_0.envelope = envelope,
+        1 => chip.voice_1.envelope = envelope,
+        _ => chip.voice_2.envelope = envelope,
     }
-    after
-}
-
-fn with_count(e: Envelope, divisor: u8, count: u8) -> Envelope {
-    let mut after = e;
-    after.curve_divisor = divisor;
-    after.curve_count = count;
-    after
+    chip
 }
 
 // The forecasts with each count below a divisor, the highest first, in one digest.
-fn forecast_counts(digest: u64, chip: Mos6581, voice: u8, e: Envelope, divisor: u8) -> u64 {
-    let mut answer = digest;
-    let mut count = divisor;
-    while 0 < count {
-        count = count - 1;
-        let with = put(chip, voice, with_count(e, divisor, count));
-        answer = cases::mixed(answer, forecast(with, voice));
+fn forecast_counts(mut digest: u64, chip: Mos6581, voice: u8, e: Envelope, divisor: u8) -> u64 {
+    for count in (0..divisor).rev() {
+        let with_count = Envelope {
+            curve_divisor: divisor,
+            curve_count: count,
+            ..e
+        };
+        digest = cases::mixed(digest, forecast(put(chip, voice, with_count), voice));
     }
-    answer
+    digest
 }
 
 fn forecast_each(chip: Mos6581, voice: u8, e: Envelope) -> u64 {
-    let mut answer: u64 = 1;
-    for place in 0..6usize {
-        answer = forecast_counts(answer, chip, voice, e, DIVISORS[place]);
+    let mut digest = 1;
+    for divisor in DIVISORS {
+        digest = forecast_counts(digest, chip, voice, e, divisor);
     }
-    answer
-}
-
-fn told(answer: Ran) -> u64 {
-    match answer {
-        Ran::Clocks { clocks, stopped } => (clocks as u64) | ((stopped as u64) << 40),
-        Ran::Refused(r) => cases::refusal(r),
-    }
+    digest
 }
 
 // What a run answered, and what it left to be seen, in one digest.
 fn ran(r: HeldRun) -> Answered {
-    let chip = r.chip;
-    let answer = r.answer;
+    let told = match r.answer {
+        Ok(ran) => (ran.clocks as u64) | ((ran.stopped as u64) << 40),
+        Err(refused) => cases::refusal(refused),
+    };
     Answered {
-        chip,
-        answer: cases::mixed(cases::mixed(1, told(answer)), scenes::heard(chip)),
+        chip: r.chip,
+        answer: cases::mixed(cases::mixed(1, told), scenes::heard(r.chip)),
     }
 }
 
-fn made(record: &[u8], chip: Mos6581, filled: &[u16], one_number: &[u16]) -> Answered
+// A filled pack, and one of one number.
+#[derive(Clone, Copy)]
+struct Packs<'a> {
+    filled: &'a [u16],
+    one_number: &'a [u16],
+}
+
+fn made(record: &[u8], chip: Mos6581, packs: Packs) -> Answered
     requires { length «record».now ≡ 32 }
 {
     let value = words::u8_at(record, 1);
@@ -128,8 +112,8 @@ fn made(record: &[u8], chip: Mos6581, filled: &[u16], one_number: &[u16]) -> Ans
             answer: forecast_each(chip, value, states::state(&record[6..24])),
         },
         7 => ran(tail::run_to_held(chip, value, number)),
-        8 => ran(tail::run_to_held_over(chip, value, number, filled)),
-        9 => ran(tail::run_to_held_over(chip, value, number, one_number)),
+        8 => ran(tail::run_to_held_over(chip, value, number, packs.filled)),
+        9 => ran(tail::run_to_held_over(chip, value, number, packs.one_number)),
         _ => Answered {
             chip,
             answer: planner::matches_to_zero(value) as u64,
@@ -143,27 +127,15 @@ struct Replayed {
     tally: Tally,
 }
 
-fn replay(
-    list: &[u8],
-    before: Mos6581,
-    counted: Tally,
-    filled: &[u16],
-    one_number: &[u16],
-) -> Replayed {
-    let mut chip = before;
-    let mut tally = counted;
-    let mut rest = list.len() / 32;
-    let mut at: usize = 0;
-    while 0 < rest {
-        let next = at + 32;
-        let gave = made(&list[at..next], chip, filled, one_number);
-        let after = gave.chip;
-        chip = after;
-        tally = tally.count(gave.answer == words::u64_at(list, at + 24));
-        at = next;
-        rest = rest - 1;
+impl Replayed {
+    fn replay(mut self, list: &[u8], packs: Packs) -> Self {
+        for record in list.chunks_exact(32) {
+            let gave = made(record, self.chip, packs);
+            self.chip = gave.chip;
+            self.tally = self.tally.count(gave.answer == words::u64_at(record, 24));
+        }
+        self
     }
-    Replayed { chip, tally }
 }
 
 // A part holds whole records; 2^20 parts are more than any list has.
@@ -172,22 +144,22 @@ fn replay_input() -> Tally {
     let mut filled = [0u16; pack::LENGTH];
     pack::fill(&mut filled);
     let one_number = [0xfa5au16; pack::LENGTH];
-    let mut chip = Mos6581::new();
-    let mut tally = Tally::new();
-    let mut parts: u32 = 1048576;
-    while 0 < parts {
+    let packs = Packs {
+        filled: &filled,
+        one_number: &one_number,
+    };
+    let mut replayed = Replayed {
+        chip: Mos6581::new(),
+        tally: Tally::new(),
+    };
+    for _ in 0..1u32 << 20 {
         let n = io::read_full(0, &mut list);
         if n == 0 {
-            return tally;
+            break;
         }
-        let r = replay(&list[..n], chip, tally, &filled, &one_number);
-        let next = r.chip;
-        let count = r.tally;
-        chip = next;
-        tally = count;
-        parts = parts - 1;
+        replayed = replayed.replay(&list[..n], packs);
     }
-    tally
+    replayed.tally
 }
 
 fn main() {

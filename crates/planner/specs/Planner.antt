@@ -1,12 +1,10 @@
 -- Document 02, request 9: the clock on which a settled release ends, the table that it is worked out by, and the first
 -- held clock of any envelope.
-use Rattle.std.specs.Prelude.{ℕ, zero, suc, ◌+◌, ◌-◌, ◌<◌, ◌≤◌, ◌≡◌, Bool, true, false, cond, not, ◌&&◌, List, eqb, ltb, get_or}
+use Rattle.std.specs.Prelude.{ℕ, zero, suc, ◌+◌, ◌-◌, ◌<◌, ◌≤◌, ◌≡◌, Bool, true, false, cond, not, ◌&&◌, List, Option, Some, None, eqb, ltb, get_or}
 use Rattle.envelope.specs.declared.Envelope.{Envelope}
 use Rattle.envelope.specs.declared.EnvelopeMotion.{EnvelopeMotion}
 use Rattle.envelope.specs.declared.EnvelopeMotion.TheVariants.{Rising, FallingToSustain, FallingToZero}
 use Rattle.envelope.specs.Envelope.{period_of, divisor_for, clocked, quiescent}
-use Rattle.planner.specs.declared.LastStep.{LastStep}
-use Rattle.planner.specs.declared.LastStep.TheVariants.{On, Unsettled}
 use Rattle.release.specs.Release.{is_divisor, in_force, divisor_after, asked, last_step}
 use Rattle.release.specs.Settled.{Runs}
 
@@ -36,8 +34,8 @@ is_settled e =
     && is_divisor e.curve_divisor
     && ltb e.curve_count e.curve_divisor
 
-unfoldable pub last_step_of : Envelope → LastStep
-last_step_of e = cond (is_settled e) (On (last_step e (release_period e))) Unsettled
+unfoldable pub last_step_of : Envelope → Option ℕ
+last_step_of e = cond (is_settled e) (Some (last_step e (release_period e))) None
 
 -- ---- 'It uses a table of 256 numbers, the matches from each level to zero on a fall from 0xff, level 0 giving 0'
 

@@ -2,10 +2,10 @@
 // counted.
 #![tactic(auto)]
 
-ghost use Rattle.std.specs.Prelude.{◌≡◌, true, cond, ◌-◌, ◌<◌, ◌≤◌, min, eqb};
+ghost use Rattle.std.specs.Prelude.{◌≡◌, true, cond, ◌-◌, ◌<◌, ◌≤◌, eqb, ltb, find};
 ghost use Rattle.release.specs.Release.{is_divisor, steps, matches, last_step};
 ghost use Rattle.release.specs.StepClocks.{lag};
-ghost use Rattle.planner.specs.Planner.{release_period, is_falling, is_settled, last_step_of, to_zero, adds, turn as Planner·turn, held_within};
+ghost use Rattle.planner.specs.Planner.{release_period, is_settled, last_step_of, to_zero, adds, turn as Planner·turn, held_within};
 ghost use Rattle.planner.specs.Skips.{is_waiting, Leads};
 
 use envelope::{Envelope, EnvelopeMotion};
@@ -14,36 +14,28 @@ use envelope::{Envelope, EnvelopeMotion};
 pub fn matches_to_zero(level: u8) -> u16
     ensures { result ≡ to_zero level }
 {
-    let matches = table();
-    matches[level as usize]
+    table()[level as usize]
 }
 
-// The next level on the way down that queues a divisor.
+// The levels that queue a divisor on the way down, from the top.
+const QUEUING: [u8; 6] = [0x5d, 0x36, 0x1a, 0x0e, 0x06, 0x00];
+
+fn first_below(levels: &[u8], level: u8) -> Option<u8>
+    ensures { result ≡ find (λ one. ltb one level) levels.now }
+{
+    levels.iter().copied().find(|one| *one < level)
+}
+
+// The next level on the way down that queues a divisor: 0xff of an unheld zero.
+#[tactic(auto, using(crate::proofs::Falls::turn_plain))]
 fn turn(level: u8) -> u8
     ensures { result ≡ Planner·turn level }
 {
-    if level == 0 {
-        return 0xff;
-    }
-    if 0x5d < level {
-        return 0x5d;
-    }
-    if 0x36 < level {
-        return 0x36;
-    }
-    if 0x1a < level {
-        return 0x1a;
-    }
-    if 0x0e < level {
-        return 0x0e;
-    }
-    if 0x06 < level {
-        return 0x06;
-    }
-    0
+    first_below(&QUEUING, level).unwrap_or(0xff)
 }
 
 // The steps down that the divisor in force counts for.
+#[tactic(auto, using(crate::proofs::Falls::turn_below, release::proofs::Steps::steps_closed), unfolding(crate::specs::Planner::turn, release::specs::Release::steps))]
 fn steps_to_turn(level: u8) -> u32
     ensures { (result ≡ steps level - Planner·turn level) × (1 ≤ result) × (result ≤ 256) }
 {
@@ -64,70 +56,38 @@ fn matches_left(e: Envelope) -> u32
 }
 
 // The clocks by which the last step lags its match.
+#[tactic(auto, unfolding(release::specs::StepClocks::lag))]
 fn last_lag(level: u8, divisor: u8) -> u32
     ensures { (result ≡ lag (cond (eqb (Planner·turn level) 0) divisor 30)) × (result ≤ 3) }
 {
-    if turn(level) != 0 {
-        return 3;
+    if turn(level) == 0 && divisor == 1 {
+        2
+    } else {
+        3
     }
-    if divisor == 1 {
-        return 2;
-    }
-    3
 }
 
 fn is_divisor(divisor: u8) -> bool
     ensures { result ≡ is_divisor divisor }
 {
-    match divisor {
-        1 => true,
-        2 => true,
-        4 => true,
-        8 => true,
-        16 => true,
-        30 => true,
-        _ => false,
-    }
+    matches!(divisor, 1 | 2 | 4 | 8 | 16 | 30)
 }
 
-fn is_falling(motion: EnvelopeMotion) -> bool
-    ensures { result ≡ is_falling motion }
-{
-    match motion {
-        EnvelopeMotion::Rising => false,
-        EnvelopeMotion::FallingToSustain => false,
-        EnvelopeMotion::FallingToZero => true,
-    }
-}
-
+#[tactic(auto, using(envelope::proofs::Periods::period_some), unfolding(crate::specs::Planner::is_settled))]
 fn is_settled(e: Envelope) -> bool
     ensures { result ≡ is_settled e }
 {
-    if e.gate.input {
-        return false;
-    }
-    let motion = e.motion;
-    if !is_falling(motion) {
-        return false;
-    }
-    if e.floor_hold {
-        return false;
-    }
-    if !e.quiescent() {
-        return false;
-    }
-    if e.rate_target_phase != envelope::envelope_rate_period(e.fall_rate) - 1 {
-        return false;
-    }
-    if 32767 <= e.rate_phase {
-        return false;
-    }
-    if !is_divisor(e.curve_divisor) {
-        return false;
-    }
-    e.curve_count < e.curve_divisor
+    !e.gate.input
+        && e.motion == EnvelopeMotion::FallingToZero
+        && !e.floor_hold
+        && e.quiescent()
+        && e.rate_target_phase == envelope::envelope_rate_period(e.fall_rate) - 1
+        && e.rate_phase < 32767
+        && is_divisor(e.curve_divisor)
+        && e.curve_count < e.curve_divisor
 }
 
+#[tactic(auto, using(envelope::proofs::Periods::period_some))]
 fn settled_clock(e: Envelope) -> u32
     requires { is_settled e ≡ true }
     ensures { result ≡ last_step e (release_period e) }
@@ -137,57 +97,35 @@ fn settled_clock(e: Envelope) -> u32
     wait + 2 + (matches_left(e) - 1) * period + last_lag(e.volume, e.curve_divisor)
 }
 
-// The clock of the last step of a settled release, the first clock being 1.
-#[derive(Clone, Copy)]
-pub enum LastStep {
-    On { clock: u32 },
-    Unsettled,
-}
-
-pub fn last_step(e: Envelope) -> LastStep
+// The clock of the last step of a settled release, the first clock being 1; of any other envelope none.
+#[tactic(auto, unfolding(crate::specs::Planner::last_step_of))]
+pub fn last_step(e: Envelope) -> Option<u32>
     ensures { result ≡ last_step_of e }
 {
     if is_settled(e) {
-        return LastStep::On {
-            clock: settled_clock(e),
-        };
+        Some(settled_clock(e))
+    } else {
+        None
     }
-    LastStep::Unsettled
-}
-
-fn least(a: u32, b: u32) -> u32
-    ensures { result ≡ min a b }
-{
-    if a < b {
-        return a;
-    }
-    b
 }
 
 // Nothing moves but the rate counter, up to its match.
+#[tactic(auto, unfolding(crate::specs::Skips::is_waiting))]
 fn is_waiting(e: Envelope) -> bool
     ensures { result ≡ is_waiting e }
 {
-    if !e.quiescent() {
-        return false;
-    }
-    if e.rate_target_phase < 8 {
-        return false;
-    }
-    if 32767 <= e.rate_target_phase {
-        return false;
-    }
-    e.rate_phase < 32767
+    e.quiescent() && 8 <= e.rate_target_phase && e.rate_target_phase < 32767 && e.rate_phase < 32767
 }
 
 // An envelope, and the clocks that it has made.
-#[derive(Clone, Copy)]
+#[derive(Clone, Copy, PartialEq, Eq, Debug)]
 struct Onward {
     e: Envelope,
     clocks: u32,
 }
 
 // The match of an envelope that waits for it; of any other the next clock.
+#[tactic(auto, using(crate::proofs::Counts::waiting_low))]
 fn go_on(mut e: Envelope) -> Onward
     ensures { Leads e result }
 {
@@ -206,29 +144,30 @@ fn go_on(mut e: Envelope) -> Onward
 
 // The first clock after which the level is held at zero, or n where none of n is: 0 where it is held already. It goes
 // from match to match, and once the release is settled no further, so that few clocks have to be made.
-pub fn held_within(e: Envelope, n: u32) -> u32
+pub fn held_within(mut e: Envelope, n: u32) -> u32
     ensures { result ≡ held_within n e }
 {
-    let mut now = e;
-    let mut i = 0u32;
+    let mut i = 0;
+    // `while`, since a step is as many clocks as it is to the next match
     while i < n {
-        if now.held() {
+        if e.held() {
             return i;
         }
-        if is_settled(now) {
-            return i + least(settled_clock(now), n - i);
+        if is_settled(e) {
+            return i + settled_clock(e).min(n - i);
         }
-        let next = go_on(now);
+        let next = go_on(e);
         if n - i < next.clocks {
             return n;
         }
-        now = next.e;
-        i = i + next.clocks;
+        e = next.e;
+        i += next.clocks;
     }
     n
 }
 
 // Each entry is the one below plus the divisor in force.
+#[tactic(auto, unfolding(crate::specs::Planner::adds, envelope::specs::Envelope::divisor_for, release::specs::Release::in_force))]
 fn table() -> [u16; 256]
     ensures { adds result 0xff 1 ≡ true }
 {

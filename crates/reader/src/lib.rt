@@ -5,26 +5,31 @@
 ghost use Rattle.std.specs.Prelude.{◌≡◌};
 ghost use Rattle.score.specs.Fields.{field_at};
 
-#[derive(Clone, Copy)]
+use refusals::Refused;
+use score::Field;
+
+#[derive(Clone, Copy, Debug, PartialEq, Eq)]
 pub struct Reader<'a> {
     pub src: &'a [u8],
     pub at: usize,
 }
 
-pub fn reader_at<'a>(src: &'a [u8], at: usize) -> Reader<'a>
-    ensures { (result.src ≡ src.entry) × (result.at ≡ at) }
-{
-    Reader { src, at }
+impl<'a> Reader<'a> {
+    pub fn new(src: &'a [u8], at: usize) -> Self
+        ensures { (result.src ≡ src.entry) × (result.at ≡ at) }
+    {
+        Self { src, at }
+    }
+
+    pub fn field(self) -> Result<(Field, usize), Refused>
+        ensures { result ≡ field_at self.entry.src.now self.entry.at }
+    {
+        score::field_at(self.src, self.at)
+    }
 }
 
-pub fn field<'a>(r: Reader<'a>) -> score::FieldRead
-    ensures { result ≡ field_at r.entry.src.now r.entry.at }
-{
-    score::field_at(r.src, r.at)
-}
-
-pub fn read_field(s: &[u8], at: usize) -> score::FieldRead
+pub fn read_field(s: &[u8], at: usize) -> Result<(Field, usize), Refused>
     ensures { result ≡ field_at s.now at }
 {
-    field(reader_at(s, at))
+    Reader::new(s, at).field()
 }

@@ -4,7 +4,7 @@
 
 ghost use Rattle.std.specs.Prelude.{◌≡◌};
 ghost use Rattle.refusals.specs.Refusals.{tells};
-ghost use Rattle.score.specs.Fields.{known_len, what_of, value_of, field_at, is_end, is_access};
+ghost use Rattle.score.specs.Fields.{known_len, what_of, value_of, field_at, tag_of, is_end, is_access};
 ghost use Rattle.score.specs.Stamps.{unstamped, used, admit};
 ghost use Rattle.score.specs.Scores.{checked};
 ghost use Rattle.score.specs.Given.{Judged};
@@ -22,6 +22,19 @@ pub enum What {
 }
 
 impl What {
+    // The first byte of a field that asks for it.
+    pub fn tag(self) -> u8
+        ensures { result ≡ tag_of self }
+    {
+        match self {
+            What::Write { .. } => 0x01,
+            What::Read { .. } => 0x02,
+            What::Levels => 0x03,
+            What::Watch => 0x04,
+            What::End => 0x7f,
+        }
+    }
+
     pub fn is_end(self) -> bool
         ensures { result ≡ is_end self }
     {

@@ -1,5 +1,6 @@
 -- A line is the line of one field at most, the one that it can mean (`meant_line`), so that comparing with that one's
 -- text decides; what is answered of a field's line is the field (`line_back`). Assumes nothing.
+use Rattle.std.specs.Prelude.{Option, Some, None, IfSome, IsTrue, ◌↔◌}
 use Prim.Native.Nat.{ℕ, ◌+◌, ◌-◌, ◌^◌, ◌≤◌, ◌<◌}
 use native.Mathlib.Omega.{arith}
 use mathlib.Core.Bool.{Bool, true, false}
@@ -17,20 +18,14 @@ use Rattle.score.specs.Fields.{stamped}
 use Rattle.listing.specs.Text.{Put, line_feed, decimal}
 use Rattle.listing.specs.FieldText.{spaced_number, word_of, operands, field_text, field_line}
 use Rattle.listing.proofs.Joins.{take_put}
-use Rattle.script.specs.declared.LineRead.{LineRead}
-use Rattle.script.specs.declared.LineRead.TheVariants.{Got, Other}
 use Rattle.script.specs.declared.Number.{Number}
-use Rattle.script.specs.Numbers.{is_digit, number, none, number_at, Stands}
-use Rattle.script.specs.Lines.{index_of, line_end, FitsWhat, Fits, LineOf, Reads, number_after, stamp_in, address_in, write_in, read_in, bare_in, meant, Decides}
-use Rattle.script.proofs.Numbers.{here, number_back, number_within}
+use Rattle.script.specs.Numbers.{is_digit, number, number_at, Stands}
+use Rattle.script.specs.Lines.{index_of, line_end, FitsWhat, Fits, LineOf, Reads, number_after, then, write_in, read_in, bare_in, meant}
+use Rattle.script.proofs.Numbers.{Within, here, number_back, number_within}
 
 -- ---- the end of a line
 
 module _ (text : List ℕ) (at : ℕ) where
-  pub end_past : length text ≤ at → length text ≡ line_end text at
-  unfolding line_end
-  end_past h = simp (le-leb (length text) at h)
-
   pub end_within : at < length text → at + index_of 10 (drop at text) ≡ line_end text at
   unfolding line_end
   end_within h = simp (lt-leb (length text) at h)
@@ -41,23 +36,18 @@ pub after_there : (limit : ℕ) (l : List ℕ) (at : ℕ) → at < length l → 
 unfolding number_after
 after_there limit l at h = simp (lt-ltb at (length l) h)
 
-pub after_past : (limit : ℕ) (l : List ℕ) (at : ℕ) → length l ≤ at → none at ≡ number_after limit l at
+after_within : (limit : ℕ) (l : List ℕ) (at : ℕ) → Within limit (number_after limit l at)
 unfolding number_after
-after_past limit l at h = simp (le-ltb at (length l) h)
-
-pub after_within : (limit : ℕ) (l : List ℕ) (at : ℕ) → (number_after limit l at).value ≤ limit
-unfolding number_after
-after_within limit l at =
-    either (λ (r : Number). r.value ≤ limit) (ltb at (length l)) (number_at limit l (at + 1)) (none at) (number_within limit l (at + 1)) (omega arith)
+after_within limit l at = either (Within limit) (ltb at (length l)) (number_at limit l (at + 1)) None (number_within limit l (at + 1)) tt
 
 -- a number of at most 255 is a byte
-pub after_byte : (l : List ℕ) (at : ℕ) {r : Number} → r ≡ number_after 255 l at → r.value < 256
-after_byte l at e = omega (arith, ap (λ (n : Number). n.value) e, after_within 255 l at)
+pub after_byte : (l : List ℕ) (at : ℕ) {r : Number} → number_after 255 l at ≡ Some r → r.value < 256
+after_byte l at {r} e = let h : Within 255 (Some r) = rw e at (after_within 255 l at) in omega arith
 
 -- the number n stands in l after the one byte at a place, and u after it
 record After (l : List ℕ) (at n : ℕ) (u : List ℕ) (limit : ℕ) : Type 0 where
   next : ℕ
-  read : number_after limit l at ≡ number n next
+  read : number_after limit l at ≡ Some (number n next)
   rest : drop next l ≡ u
 
 after_back
@@ -79,15 +69,15 @@ after_back l at x n u limit e ends h =
 -- ---- the field that a line can mean
 
 module _ (l : List ℕ) where
-  write_meant : {t a v : ℕ} {u w : List ℕ} → (x : After l 5 t u 0xffff_ffff) (y : After l x.next a w 255) → After l y.next v [] 255 → write_in l ≡ stamped t (Write a v)
+  write_meant : {t a v : ℕ} {u w : List ℕ} → (x : After l 5 t u 0xffff_ffff) (y : After l x.next a w 255) → After l y.next v [] 255 → write_in l ≡ Some (stamped t (Write a v))
   unfolding write_in
   write_meant x y z = rw (x.read, y.read, z.read)
 
-  read_meant : {t a : ℕ} {u : List ℕ} → (x : After l 4 t u 0xffff_ffff) → After l x.next a [] 255 → read_in l ≡ stamped t (Read a)
+  read_meant : {t a : ℕ} {u : List ℕ} → (x : After l 4 t u 0xffff_ffff) → After l x.next a [] 255 → read_in l ≡ Some (stamped t (Read a))
   unfolding read_in
   read_meant x y = rw (x.read, y.read)
 
-  bare_meant : {t : ℕ} (letters : ℕ) (what : What) → After l letters t [] 0xffff_ffff → bare_in l letters what ≡ stamped t what
+  bare_meant : {t : ℕ} (letters : ℕ) (what : What) → After l letters t [] 0xffff_ffff → bare_in l letters what ≡ Some (stamped t what)
   unfolding bare_in
   bare_meant letters what x = rw x.read
 
@@ -96,7 +86,7 @@ last_back : (l : List ℕ) (at x n limit : ℕ) → drop at l ≡ x ∷ decimal 
 last_back l at x n limit e h = after_back l at x n [] limit (e ∙ ap (λ (y : List ℕ). x ∷ y) (sym (append-nil (decimal n)))) refl h
 
 -- a field's text means the field
-text_back : (t : ℕ) (w : What) → t < 2 ^ 32 → FitsWhat w → meant (field_text (stamped t w)) ≡ stamped t w
+text_back : (t : ℕ) (w : What) → t < 2 ^ 32 → FitsWhat w → meant (field_text (stamped t w)) ≡ Some (stamped t w)
 unfolding meant field_text word_of spaced_number operands
 text_back t (Write a v) h k =
     let l = field_text (stamped t (Write a v)) in
@@ -129,47 +119,67 @@ unfolding field_line
 line_text {f} {l} o = feedless l (field_text f) o.line
 
 -- the field whose line a line is, if it is any field's, is the one that it can mean
-pub meant_line : {f : Field} {l : List ℕ} → LineOf f l → meant l ≡ f
+pub meant_line : {f : Field} {l : List ℕ} → LineOf f l → meant l ≡ Some f
 meant_line {f} {l} o = ap meant (line_text o) ∙ text_back f.stamp f.what o.fits.stamp o.fits.what
 
 -- a line is of one field at most
 pub line_one : {f g : Field} {l : List ℕ} → LineOf f l → LineOf g l → f ≡ g
-line_one o p = sym (meant_line o) ∙ meant_line p
+line_one o p = cc (meant_line o, meant_line p)
 
-meant_fits : (l : List ℕ) → Fits (meant l)
-unfolding meant write_in read_in bare_in
-meant_fits l =
-    by_test Fits (eqb (get_or l 2 0) 105) _ _
-    (λ _. record { stamp = omega (arith, after_within 0xffff_ffff l 5); what = (omega (arith, after_within 255 l (stamp_in l 5).next), omega (arith, after_within 255 l (address_in l 5).next)) })
-    (λ _. by_test Fits (eqb (get_or l 2 0) 97) _ _ (λ _. record { stamp = omega (arith, after_within 0xffff_ffff l 4); what = omega (arith, after_within 255 l (stamp_in l 4).next) })
-    (λ _. by_test Fits (eqb (get_or l 2 0) 118) _ _ (λ _. record { stamp = omega (arith, after_within 0xffff_ffff l 6); what = tt })
-    (λ _. either Fits (eqb (get_or l 2 0) 116) _ _
-    (record { stamp = omega (arith, after_within 0xffff_ffff l 5); what = tt })
-    (record { stamp = omega (arith, after_within 0xffff_ffff l 3); what = tt }))))
+then_fits
+    : {limit : ℕ} (r : Option Number) (go : Number → Option Field)
+    → Within limit r
+    → ((n : Number) → n.value ≤ limit → IfSome (go n) Fits)
+    → IfSome (then r go) Fits
+then_fits None go h f = tt
+then_fits (Some n) go h f = f n h
+
+module _ (l : List ℕ) where
+  abbrev stamp_fits : (letters : ℕ) (go : Number → Option Field) → ((n : Number) → n.value ≤ 0xffff_ffff → IfSome (go n) Fits) → IfSome (then (number_after 0xffff_ffff l letters) go) Fits
+  stamp_fits letters go = then_fits (number_after 0xffff_ffff l letters) go (after_within 0xffff_ffff l letters)
+
+  abbrev byte_fits : (at : ℕ) (go : Number → Option Field) → ((n : Number) → n.value ≤ 255 → IfSome (go n) Fits) → IfSome (then (number_after 255 l at) go) Fits
+  byte_fits at go = then_fits (number_after 255 l at) go (after_within 255 l at)
+
+  bare_fits : (letters : ℕ) (what : What) → FitsWhat what → IfSome (bare_in l letters what) Fits
+  unfolding bare_in
+  bare_fits letters what h = stamp_fits letters _ (λ t k. record { stamp = omega arith; what = h })
+
+  meant_fits : IfSome (meant l) Fits
+  unfolding meant write_in read_in
+  meant_fits =
+      by_test (λ (r : Option Field). IfSome r Fits) (eqb (get_or l 2 0) 105) _ _
+      (λ _. stamp_fits 5 _ (λ t k. byte_fits t.next _ (λ a m. byte_fits a.next _ (λ v n. record { stamp = omega arith; what = (omega arith, omega arith) }))))
+      (λ _. by_test (λ (r : Option Field). IfSome r Fits) (eqb (get_or l 2 0) 97) _ _
+      (λ _. stamp_fits 4 _ (λ t k. byte_fits t.next _ (λ a m. record { stamp = omega arith; what = omega arith })))
+      (λ _. by_test (λ (r : Option Field). IfSome r Fits) (eqb (get_or l 2 0) 118) _ _ (λ _. bare_fits 6 Levels tt)
+      (λ _. either (λ (r : Option Field). IfSome r Fits) (eqb (get_or l 2 0) 116) _ _ (bare_fits 5 Watch tt) (bare_fits 3 End tt))))
 
 -- ---- what is answered of a line
 
-module _ {l : List ℕ} {f : Field} {same : Bool} (is-meant : f ≡ meant l) (decides : Decides same l (field_text f)) where
-  pub reads_got : same ≡ true → Reads l (Got f)
+module _ {l : List ℕ} {f : Field} {same : Bool} (is-meant : meant l ≡ Some f) (decides : IsTrue same ↔ l ≡ field_text f) where
+  pub reads_got : same ≡ true → Reads l (Some f)
   unfolding field_line
-  reads_got e = record { fits = rw is-meant (meant_fits l); line = ap (λ (x : List ℕ). x ++ line_feed) (decides.0 e) }
+  reads_got e = record { fits = rw is-meant at (meant_fits l); line = ap (λ (x : List ℕ). x ++ line_feed) (decides.0 e) }
 
-  pub reads_other : same ≡ false → Reads l Other
+  pub reads_other : same ≡ false → Reads l None
   reads_other e g o =
-      let is : l ≡ field_text f = line_text o ∙ ap field_text (sym (meant_line o) ∙ sym is-meant) in
-      let k = decides.1 is in
-      let z : ◌≡◌ {A = ℕ} 0 1 = cc in
-      omega arith
+      let q : g ≡ f = cc (meant_line o) in
+      let k : same ≡ true = decides.1 (line_text o ∙ ap field_text q) in
+      cc
+
+pub reads_none : {l : List ℕ} → meant l ≡ None → Reads l None
+reads_none e g o = cc (meant_line o)
 
 -- a field's line is read back
-pub line_back : {f : Field} {l : List ℕ} (r : LineRead) → LineOf f l → Reads l r → r ≡ Got f
-line_back (Got g) o p = ap Got (line_one p o)
-line_back Other o p = absurd (p _ o)
+pub line_back : {f : Field} {l : List ℕ} (r : Option Field) → LineOf f l → Reads l r → r ≡ Some f
+line_back (Some g) o p = ap Some (line_one p o)
+line_back None o p = absurd (p _ o)
 
 -- what is read is the field's line
-pub line_is : {f : Field} (l : List ℕ) (r : LineRead) → r ≡ Got f → Reads l r → l ++ line_feed ≡ field_line f
-line_is l (Got g) e o = o.line ∙ ap field_line (cc)
-line_is l Other e p = let z : ◌≡◌ {A = ℕ} 0 1 = cc in absurd (omega arith)
+pub line_is : {f : Field} (l : List ℕ) (r : Option Field) → r ≡ Some f → Reads l r → l ++ line_feed ≡ field_line f
+line_is l (Some g) e o = o.line ∙ ap field_line (cc)
+line_is l None e p = cc
 
 -- ---- a field's text in the buffer that its line was put into
 

@@ -1,85 +1,57 @@
 // The text of a score's fields, read back: decimal numbers, the end of a line, the field of a line.
 #![tactic(auto)]
 
-ghost use Rattle.std.specs.Prelude.{◌≡◌, ◌-◌, get_or};
+ghost use Rattle.std.specs.Prelude.{◌≡◌, ◌↔◌, IsTrue, get_or, IfSome, ◌≤◌};
 ghost use Rattle.listing.specs.FieldText.{field_text};
-ghost use Rattle.script.specs.Numbers.{is_digit, none, number_at};
-ghost use Rattle.script.specs.Lines.{line_end, number_after, write_in, read_in, bare_in, meant, Decides, Reads};
+ghost use Rattle.script.specs.Numbers.{digit, number_at};
+ghost use Rattle.script.specs.Lines.{line_end, number_after, write_in, read_in, bare_in, meant, Reads};
 
 use listing::TEXT;
 use refusals::Refused;
 use score::{Field, What};
 
-// The number that stands at a place, and the place after it. Where none stands, 0 and the place itself.
-#[derive(Clone, Copy)]
+// A number in a text, and the place after it.
+#[derive(Clone, Copy, Debug, PartialEq, Eq)]
 pub struct Number {
     pub value: u32,
     pub next: usize,
 }
 
-fn none(at: usize) -> Number
-    ensures { result ≡ none at }
+// What the digit at a place is worth, where one stands.
+fn digit_at(s: &[u8], at: usize) -> Option<u64>
+    ensures { result ≡ digit (get_or s.now at 0) }
 {
-    Number { value: 0, next: at }
-}
-
-// The byte at a place; 0, which is no digit and no letter, past the end.
-fn byte_at(s: &[u8], at: usize) -> u8
-    ensures { result ≡ get_or s.now at 0 }
-{
-    if s.len() <= at {
-        return 0;
+    match s.get(at) {
+        Some(b @ b'0'..=b'9') => Some((*b - b'0') as u64),
+        _ => None,
     }
-    s[at]
-}
-
-fn is_digit_at(s: &[u8], at: usize) -> bool
-    ensures { result ≡ is_digit (get_or s.now at 0) }
-{
-    let b = byte_at(s, at);
-    if b < b'0' {
-        return false;
-    }
-    b <= b'9'
-}
-
-// What the digit at a place is worth.
-fn digit_at(s: &[u8], at: usize) -> u64
-    ensures { result ≡ get_or s.now at 0 - 48 }
-{
-    let b = byte_at(s, at);
-    if b < b'0' {
-        return 0;
-    }
-    (b - b'0') as u64
 }
 
 // A decimal number of at most `limit`, with no sign and no leading zero, and with no digit after it.
-pub fn number_at(s: &[u8], at: usize, limit: u32) -> Number
+pub fn number_at(s: &[u8], at: usize, limit: u32) -> Option<Number>
     ensures { result ≡ number_at limit s.now at }
 {
-    if !is_digit_at(s, at) {
-        return none(at);
-    }
-    let mut value = digit_at(s, at);
+    let mut value = digit_at(s, at)?;
     let mut next = at + 1;
+    // a `while`: what ends it is the value, or the byte at `next`
     while value <= limit as u64 {
-        if !is_digit_at(s, next) {
-            return Number {
+        let Some(digit) = digit_at(s, next) else {
+            return Some(Number {
                 value: value as u32,
                 next,
-            };
-        }
+            });
+        };
         if value == 0 {
-            return none(at);
+            return None;
         }
-        value = 10 * value + digit_at(s, next);
+        value = 10 * value + digit;
         next += 1;
     }
-    none(at)
+    None
 }
 
 // The place of the first line feed at or after a place; the text's length where none is.
+#[tactic(auto, unfolding(crate::specs::Lines::line_end))]
 pub fn line_end(text: &[u8], at: usize) -> usize
     ensures { result ≡ line_end text.now at }
 {
@@ -93,93 +65,89 @@ pub fn line_end(text: &[u8], at: usize) -> usize
 }
 
 // The number after the one byte at a place, which in a field's line is a space.
-fn number_after(line: &[u8], at: usize, limit: u32) -> Number
+#[tactic(auto, unfolding(crate::specs::Lines::number_after))]
+fn number_after(line: &[u8], at: usize, limit: u32) -> Option<Number>
     ensures { result ≡ number_after limit line.now at }
 {
     if at < line.len() {
-        return number_at(line, at + 1, limit);
+        number_at(line, at + 1, limit)
+    } else {
+        None
     }
-    none(at)
 }
 
-fn write_in(line: &[u8]) -> Field
+#[tactic(auto, unfolding(crate::specs::Lines::write_in))]
+fn write_in(line: &[u8]) -> Option<Field>
     ensures { result ≡ write_in line.now }
 {
-    let stamp = number_after(line, 5, 0xffff_ffff);
-    let address = number_after(line, stamp.next, 255);
-    let value = number_after(line, address.next, 255);
-    Field {
+    let stamp = number_after(line, 5, u32::MAX)?;
+    let address = number_after(line, stamp.next, 255)?;
+    let value = number_after(line, address.next, 255)?;
+    Some(Field {
         stamp: stamp.value,
         what: What::Write {
             address: address.value as u8,
             value: value.value as u8,
         },
-    }
+    })
 }
 
-fn read_in(line: &[u8]) -> Field
+#[tactic(auto, unfolding(crate::specs::Lines::read_in))]
+fn read_in(line: &[u8]) -> Option<Field>
     ensures { result ≡ read_in line.now }
 {
-    let stamp = number_after(line, 4, 0xffff_ffff);
-    let address = number_after(line, stamp.next, 255);
-    Field {
+    let stamp = number_after(line, 4, u32::MAX)?;
+    let address = number_after(line, stamp.next, 255)?;
+    Some(Field {
         stamp: stamp.value,
         what: What::Read {
             address: address.value as u8,
         },
-    }
+    })
 }
 
 // A field that has a stamp alone, after a word of so many letters.
-fn bare_in(line: &[u8], letters: usize, what: What) -> Field
+#[tactic(auto, unfolding(crate::specs::Lines::bare_in))]
+fn bare_in(line: &[u8], letters: usize, what: What) -> Option<Field>
     ensures { result ≡ bare_in line.now letters what }
 {
-    let stamp = number_after(line, letters, 0xffff_ffff);
-    Field {
+    let stamp = number_after(line, letters, u32::MAX)?;
+    Some(Field {
         stamp: stamp.value,
         what,
-    }
+    })
 }
 
-// The one field whose line this may be: nothing is checked but the third letter, in which all words differ.
-fn meant(line: &[u8]) -> Field
+// The one field whose line this may be: nothing is checked but the third letter, in which all words differ, and that
+// the numbers are there.
+#[tactic(auto, unfolding(crate::specs::Lines::meant))]
+fn meant(line: &[u8]) -> Option<Field>
     ensures { result ≡ meant line.now }
 {
-    match byte_at(line, 2) {
-        b'i' => write_in(line),
-        b'a' => read_in(line),
-        b'v' => bare_in(line, 6, What::Levels),
-        b't' => bare_in(line, 5, What::Watch),
+    match line.get(2) {
+        Some(b'i') => write_in(line),
+        Some(b'a') => read_in(line),
+        Some(b'v') => bare_in(line, 6, What::Levels),
+        Some(b't') => bare_in(line, 5, What::Watch),
         _ => bare_in(line, 3, What::End),
     }
 }
 
 fn is_text(line: &[u8], f: Field) -> bool
-    ensures { Decides result line.now (field_text f) }
+    ensures { IsTrue result ↔ line.now ≡ field_text f }
 {
     let mut text = [0u8; TEXT];
     let n = listing::field_line(&mut text, f);
-    let end = n - 1;
-    check::same(line, &text[..end])
+    line == &text[..n - 1]
 }
 
-// What a line is, which is given without its line feed.
-#[derive(Clone, Copy)]
-pub enum LineRead {
-    Got(Field),
-    Other,
-}
-
-// The field that the line can mean is put as text, and the text compared with the line: so no other way to write a
-// number, a word or a space is taken.
-pub fn field_of(line: &[u8]) -> LineRead
+// The field whose line a line is, which is given without its line feed. The field that it can mean is put as text, and
+// the text compared with the line: so no other way to write a number, a word or a space is taken.
+pub fn field_of(line: &[u8]) -> Option<Field>
     ensures { Reads line.now result }
 {
-    let f = meant(line);
-    if is_text(line, f) {
-        return LineRead::Got(f);
-    }
-    LineRead::Other
+    let f = meant(line)?;
+    if is_text(line, f) { Some(f) } else { None }
 }
 
 // A refusal's line alone, for a program that prints no listing.

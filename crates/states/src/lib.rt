@@ -7,6 +7,7 @@ ghost use Rattle.states.specs.States.{motion_at, gate_of, state_of};
 
 use envelope::{Envelope, EnvelopeMotion, GateHistory};
 
+// This and `gate` are functions and no From, since the types of both sides are other crates'.
 fn motion(place: u8) -> EnvelopeMotion
     ensures { result ≡ motion_at place }
 {

@@ -2,99 +2,77 @@
 // held at zero.
 #![tactic(auto)]
 
-ghost use Rattle.std.specs.Prelude.{◌≡◌};
+ghost use Rattle.std.specs.Prelude.{◌≡◌, ◌<◌, ◌≤◌, MatchResult};
+ghost use Rattle.refusals.specs.Refusals.{refused, tells};
 ghost use Rattle.oscillator.specs.Ways.{stepwise};
 ghost use Rattle.sid.specs.Sid.{voice_of};
 ghost use Rattle.pack.specs.Pack.{over};
-ghost use Rattle.tail.specs.Tail.{free_told, forecast_of, ran_told, ran_answer, ran_chip};
+ghost use Rattle.tail.specs.Tail.{forecast_of, ran_answer, ran_chip};
 
 use envelope::Envelope;
-use planner::LastStep;
 use refusals::{Refusal, Refused};
 use sid::Mos6581;
 
-// In how many clocks a voice is free.
-#[derive(Clone, Copy)]
-pub enum Free {
-    In { clocks: u32 },
-    Refused(Refused),
-}
-
 // The clocks that were run, and whether the voice is held after them: whether that stopped it.
-#[derive(Clone, Copy)]
-pub enum Ran {
-    Clocks { clocks: u32, stopped: bool },
-    Refused(Refused),
+#[derive(Clone, Copy, PartialEq, Eq, Debug)]
+pub struct Ran {
+    pub clocks: u32,
+    pub stopped: bool,
 }
 
 // Where the run is refused, the chip is as it was.
 #[derive(Clone, Copy)]
 pub struct HeldRun {
     pub chip: Mos6581,
-    pub answer: Ran,
+    pub answer: Result<Ran, Refused>,
 }
 
-fn envelope_of(chip: Mos6581, voice: u8) -> Envelope
-    ensures { result ≡ (voice_of chip voice).envelope }
+#[tactic(auto, unfolding(sid::specs::Sid::voice_of))]
+fn envelope_of(chip: Mos6581, voice: u8) -> Result<Envelope, Refused>
+    ensures { MatchResult result (λ e. (voice ≤ 2) × (e ≡ (voice_of chip voice).envelope)) (λ r. (2 < voice) × (r ≡ refused Refusal.VoiceNumber 0)) }
 {
-    let e_0 = chip.voice_0.envelope;
-    let e_1 = chip.voice_1.envelope;
-    let e_2 = chip.voice_2.envelope;
     match voice {
-        0 => e_0,
-        1 => e_1,
-        _ => e_2,
+        0 => Ok(chip.voice_0.envelope),
+        1 => Ok(chip.voice_1.envelope),
+        2 => Ok(chip.voice_2.envelope),
+        _ => Err(Refusal::VoiceNumber.at(0)),
     }
 }
 
 // The clocks until a voice in settled release is held at zero.
-pub fn forecast(chip: Mos6581, voice: u8) -> Free
-    ensures { free_told result ≡ forecast_of chip voice }
+#[tactic(auto, unfolding(crate::specs::Tail::forecast_of))]
+pub fn forecast(chip: Mos6581, voice: u8) -> Result<u32, Refused>
+    ensures { tells result ≡ forecast_of chip voice }
 {
-    if 2 < voice {
-        return Free::Refused(Refused {
-            why: Refusal::VoiceNumber,
-            place: 0,
-        });
-    }
-    match planner::last_step(envelope_of(chip, voice)) {
-        LastStep::On { clock } => Free::In { clocks: clock },
-        LastStep::Unsettled => Free::Refused(Refused {
-            why: Refusal::Unsettled,
-            place: 0,
-        }),
-    }
+    let e = envelope_of(chip, voice)?;
+    planner::last_step(e).ok_or(Refusal::Unsettled.at(0))
 }
 
 // At most n clocks. Nothing in a tick but an envelope itself moves it, so that the loop of a run need not ask.
 pub fn run_to_held(chip: Mos6581, voice: u8, n: u32) -> HeldRun
-    ensures { (result.chip ≡ ran_chip stepwise chip voice n) × (ran_told result.answer ≡ ran_answer stepwise chip voice n) }
+    ensures { (result.chip ≡ ran_chip stepwise chip voice n) × (tells result.answer ≡ ran_answer stepwise chip voice n) }
 {
-    let none = [0u16; 0];
-    run_to_held_over(chip, voice, n, &none)
+    run_to_held_over(chip, voice, n, &[])
 }
 
 // Over a pack of any length: where it lacks the entry of a code, the code is settled afresh.
+#[tactic(auto, unfolding(crate::specs::Tail::ran_chip, crate::specs::Tail::ran_answer))]
 pub fn run_to_held_over(chip: Mos6581, voice: u8, n: u32, pack: &[u16]) -> HeldRun
-    ensures { (result.chip ≡ ran_chip (over pack.now) chip voice n) × (ran_told result.answer ≡ ran_answer (over pack.now) chip voice n) }
+    ensures { (result.chip ≡ ran_chip (over pack.now) chip voice n) × (tells result.answer ≡ ran_answer (over pack.now) chip voice n) }
 {
-    if 2 < voice {
-        return HeldRun {
+    match envelope_of(chip, voice) {
+        Ok(e) => {
+            let clocks = planner::held_within(e, n);
+            let chip = run::run_over(chip, clocks as u64, pack);
+            let answer = envelope_of(chip, voice).map(|e| Ran {
+                clocks,
+                stopped: e.held(),
+            });
+            HeldRun { chip, answer }
+        }
+        Err(refused) => HeldRun {
             chip,
-            answer: Ran::Refused(Refused {
-                why: Refusal::VoiceNumber,
-                place: 0,
-            }),
-        };
-    }
-    let clocks = planner::held_within(envelope_of(chip, voice), n);
-    let after = run::run_over(chip, clocks as u64, pack);
-    let e = envelope_of(after, voice);
-    HeldRun {
-        chip: after,
-        answer: Ran::Clocks {
-            clocks,
-            stopped: e.held(),
+            answer: Err(refused),
         },
     }
 }

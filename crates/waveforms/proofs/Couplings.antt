@@ -1,16 +1,18 @@
 -- A coupling turns only on the selection's decay and skew, of which there are three pairs, and on how far the
 -- destination lies above the source. Assumes nothing.
-use mathlib.Core.Path.{◌≡◌, refl, ap₂, ◌∙◌}
+use mathlib.Core.Path.{◌≡◌, refl, ap, ap₂, sym, ◌∙◌}
 use mathlib.Core.Bool.{Bool, true, false}
 use mathlib.Core.List.{List}
 use Prim.Native.Nat.{ℕ, ◌+◌, ◌-◌, ◌*◌, ◌/◌, ◌%◌, ◌<◌}
 use native.Mathlib.Omega.{arith}
 use lib.Dec.{eqb, ltb}
-use lib.ListN.{get_or, set, replicate, get_or-replicate}
+use lib.ListN.{length, take, drop, get_or, set, replicate, get_or-replicate}
 use lib.Seq.{get_or-set_other}
 use lib.Ieee.{Float, nan}
 use borrow.Author.Tests.{eq-eqb, ne_eqb, lt-ltb, le-ltb, eqb-true, eqb-false, ltb-true, ltb-false}
-use Rattle.laws.proofs.Build.{built_at}
+use Rattle.std.proofs.lemmas.List.{ext_get_or, get_or-take, get_or-drop, length-take, length-drop}
+use Rattle.laws.specs.Build.{build}
+use Rattle.laws.proofs.Build.{build_at, built_at, length_build}
 use Rattle.waveforms.specs.Constants.{directional_skews, distance_decays, by_selection}
 use Rattle.waveforms.specs.Waveforms.{coupled, coupling}
 use Rattle.waveforms.specs.Offsets.{by_offset_of}
@@ -62,16 +64,25 @@ coupling_moved s d r k =
     let q : r + k - (d + k) ≡ r - d = omega arith in
     simp (eqb_moved d r k, ltb_moved r d k, p, q)
 
--- the entry of the line array for source r and destination d, out of the couplings by offset
-pub coupling_offset
-    : (s d r : ℕ) (l : List Float)
+-- the entry k of a line array
+abbrev pub entry : ℕ → ℕ → Float
+entry s k = coupling s (k % 12) (k / 12)
+
+-- the row of source r is twelve of the couplings by offset on end
+pub coupling_row
+    : (s r : ℕ) (l : List Float)
     → l ≡ by_offset_of s
-    → d < 12
     → r < 12
-    → get_or l (11 + d - r) nan ≡ coupling s ((r * 12 + d) % 12) ((r * 12 + d) / 12)
-coupling_offset s d r l e h g =
-    let p : 11 + d - r ≡ d + (11 - r) = omega arith in
+    → take 12 (drop (11 - r) l) ≡ build (λ d. entry s (r * 12 + d)) 12
+coupling_row s r l e h =
+    let n : length l ≡ 23 = ap length e ∙ length_build (λ k. coupling s k 11) 23 in
+    let long : length (take 12 (drop (11 - r) l)) ≡ 12 = omega (arith, n, length-take 12 (drop (11 - r) l), length-drop (11 - r) l) in
+    ext_get_or nan (take 12 (drop (11 - r) l)) (build (λ d. entry s (r * 12 + d)) 12) (long ∙ sym (length_build (λ d. entry s (r * 12 + d)) 12)) (λ d g.
+    let h' : d < 12 = omega (arith, long) in
+    let p : 11 - r + d ≡ d + (11 - r) = omega arith in
     let q : 11 ≡ r + (11 - r) = omega arith in
     let x : d ≡ (r * 12 + d) % 12 = omega arith in
     let y : r ≡ (r * 12 + d) / 12 = omega arith in
-    built_at (λ k. coupling s k 11) 23 l (11 + d - r) nan e (omega arith) ∙ ap₂ (coupling s) p q ∙ coupling_moved s d r (11 - r) ∙ ap₂ (coupling s) x y
+    get_or-take 12 (drop (11 - r) l) d nan h' ∙ get_or-drop (11 - r) l d nan
+    ∙ built_at (λ k. coupling s k 11) 23 l (11 - r + d) nan e (omega arith) ∙ ap₂ (coupling s) p q ∙ coupling_moved s d r (11 - r) ∙ ap₂ (coupling s) x y
+    ∙ sym (build_at (λ k. entry s (r * 12 + k)) 12 d nan h'))

@@ -1,3 +1,4 @@
+pub mod Arrays
 pub mod Couplings
 pub mod Literals
 pub mod Loading

@@ -2,6 +2,7 @@
 -- its bit to `code`. Assumes nothing.
 use mathlib.Core.Path.{◌≡◌, refl, ap, ap₂}
 use mathlib.Core.List.{List}
+use mathlib.Core.Logic.{inl, inr}
 use Prim.Native.Nat.{ℕ, zero, suc, ◌+◌, ◌*◌, ◌^◌, ◌<◌, ◌≤◌}
 use native.Mathlib.Omega.{arith}
 use native.Mathlib.Nat.{pow-suc}
@@ -9,11 +10,14 @@ use native.Mathlib.Numerals.{add-one}
 use lib.Dec.{lit<}
 use lib.ListN.{get_or, replicate}
 use lib.Pow.{pow_mono}
-use lib.Ieee.{Float, nan, le}
+use lib.Ieee.{Float, nan, is_nan, le, sub, of_int, binary32}
+use lib.IntN.{pos}
+use Rattle.std.specs.Float.{IsFloatMax}
 use Rattle.laws.specs.Build.{build}
 use Rattle.laws.proofs.Build.{built_at, build_same}
 use Rattle.laws.proofs.Cond.{either}
-use Rattle.waveforms.specs.Waveforms.{pulled, discharge, drained, pass, retained, code}
+use Rattle.waveforms.specs.Constants.{0·0, 2·0}
+use Rattle.waveforms.specs.Waveforms.{◌⊖◌, max, drivers, source_excess, pulled, discharge, drained, pass, retained, code}
 
 module _ (cs : List Float) (load : Float) (ps : List Float) where
   -- no source has been added: each line has the load alone
@@ -65,3 +69,18 @@ module _ (t : Float) (cs : List Float) where
 
     pub code_fits : n < 12 → o + r < 2 ^ 16
     code_fits h = omega (arith, code_more, code_lt (n + 1), pow_mono {i = n + 1} {j = 12} (omega arith))
+
+-- std's max may answer either of two equal numbers, as 0.0 and -0.0; of these none is -0.0
+module _ (r : Float) where
+  excess_of : (n : ℕ) → n ≤ 4 → IsFloatMax (of_int binary32 (pos n) ⊖ 2·0) 0·0 r → r ≡ max (of_int binary32 (pos n) ⊖ 2·0) 0·0
+  unfolding max of_int sub 2·0 0·0 le is_nan
+  excess_of zero h e = elim e [ inl p ↦ p | inr p ↦ p ]
+  excess_of (suc zero) h e = elim e [ inl p ↦ p | inr p ↦ p ]
+  excess_of (suc (suc zero)) h e = elim e [ inl p ↦ p | inr p ↦ p ]
+  excess_of (suc (suc (suc zero))) h e = elim e [ inl p ↦ p | inr p ↦ p ]
+  excess_of (suc (suc (suc (suc zero)))) h e = elim e [ inl p ↦ p | inr p ↦ p ]
+  excess_of (suc (suc (suc (suc (suc n))))) h e = absurd (omega arith)
+
+  pub excess : (s : ℕ) → IsFloatMax (of_int binary32 (pos (drivers s)) ⊖ 2·0) 0·0 r → r ≡ source_excess s
+  unfolding source_excess drivers
+  excess s e = excess_of (drivers s) (omega arith) e

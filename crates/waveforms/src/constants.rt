@@ -1,4 +1,4 @@
-// What line loading takes of constants.rs.
+// What line loading takes of constants.rs, array by array under its names, so that the two files compare line by line.
 pub const COMBINED_WAVEFORM_NEIGHBOUR_COUPLING: f32 = 0.05931141;
 
 pub const COMBINED_WAVEFORM_DIRECTIONAL_SKEW_BY_SELECTION: [f32; 16] = [

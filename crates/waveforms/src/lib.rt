@@ -7,7 +7,7 @@ mod offsets;
 ghost use Rattle.std.specs.Prelude.{◌≡◌, ◌+◌, ◌*◌, ◌<◌, get_or};
 ghost use Rattle.std.specs.Float.{nan};
 ghost use Rattle.laws.specs.Build.{build};
-ghost use Rattle.waveforms.specs.Waveforms.{triangle, max, clamp, power, powi, coupled, coupling, load_if, static_load_of, array_of, drivers, interaction_scale, charge_at, pulled, discharge, drained, pass, retained, code, settled_by, needs_loading, loaded};
+ghost use Rattle.waveforms.specs.Waveforms.{triangle, power, powi, coupled, coupling, load_if, static_load_of, array_of, drivers, interaction_scale, charge_at, pulled, discharge, drained, pass, retained, code, settled_by, needs_loading, loaded};
 ghost use Rattle.waveforms.specs.Offsets.{by_offset_of};
 
 use constants::{
@@ -19,35 +19,13 @@ use constants::{
 };
 use offsets::{OFFSET_COUPLINGS, OFFSET_COUPLINGS_OF_3, OFFSET_COUPLINGS_OF_5};
 
+#[tactic(auto, unfolding(crate::specs::Waveforms::triangle))]
 pub fn triangle_from_phase(phase: u16) -> u16
     ensures { result ≡ triangle phase }
 {
     let line = phase % 4096;
-    if 0x07ff < line {
-        return (0x0fff - line) * 2;
-    }
-    line * 2
-}
-
-fn max(x: f32, y: f32) -> f32
-    ensures { result ≡ max x y }
-{
-    if y <= x {
-        return x;
-    }
-    y
-}
-
-fn clamp(x: f32, low: f32, high: f32) -> f32
-    ensures { result ≡ clamp x low high }
-{
-    if x < low {
-        return low;
-    }
-    if high < x {
-        return high;
-    }
-    x
+    let folded = if 0x07ff < line { 0x0fff - line } else { line };
+    folded * 2
 }
 
 fn power(acc: f32, square: f32, exponent: u32) -> f32
@@ -56,9 +34,7 @@ fn power(acc: f32, square: f32, exponent: u32) -> f32
     if exponent == 0 {
         return acc;
     }
-    if exponent % 2 == 1 {
-        return power(acc * square, square * square, exponent / 2);
-    }
+    let acc = if exponent % 2 == 1 { acc * square } else { acc };
     power(acc, square * square, exponent / 2)
 }
 
@@ -89,48 +65,41 @@ fn coupled(selection: u8, direction: f32, distance: u32) -> f32
         * (1.0 + direction * COMBINED_WAVEFORM_DIRECTIONAL_SKEW_BY_SELECTION[at])
 }
 
+#[tactic(auto, using(crate::proofs::Literals::is_zero, crate::proofs::Literals::is_one), unfolding(crate::specs::Waveforms::coupling))]
 fn coupling(selection: u8, destination: u32, source: u32) -> f32
     ensures { result ≡ coupling selection destination source }
 {
     if destination == source {
-        return 0.0;
+        0.0
+    } else if source < destination {
+        coupled(selection, -1.0, destination - source)
+    } else {
+        coupled(selection, 1.0, source - destination)
     }
-    if source < destination {
-        return coupled(selection, -1.0, destination - source);
-    }
-    coupled(selection, 1.0, source - destination)
 }
 
 // A coupling turns only on how far the destination lies above the source, from -11 to 11.
 fn offset_couplings(selection: u8) -> [f32; 23]
     ensures { result ≡ by_offset_of selection }
 {
-    let mut by_offset = [0.0f32; 23];
-    for k in 0..23u32 {
-        by_offset[k as usize] = coupling(selection, k, 11);
-    }
-    by_offset
+    std::array::from_fn(move |k| coupling(selection, k as u32, 11))
 }
 
 fn ready_offset_couplings(selection: u8) -> [f32; 23]
     ensures { result ≡ by_offset_of selection }
 {
-    if selection % 16 == 3 {
-        return OFFSET_COUPLINGS_OF_3;
+    match selection % 16 {
+        3 => OFFSET_COUPLINGS_OF_3,
+        5 => OFFSET_COUPLINGS_OF_5,
+        _ => OFFSET_COUPLINGS,
     }
-    if selection % 16 == 5 {
-        return OFFSET_COUPLINGS_OF_5;
-    }
-    OFFSET_COUPLINGS
 }
 
+#[tactic(auto, using(crate::proofs::Literals::is_zero), unfolding(crate::specs::Waveforms::load_if))]
 fn load_if(on: bool, load: f32) -> f32
     ensures { result ≡ load_if on load }
 {
-    if on {
-        return load;
-    }
-    0.0
+    if on { load } else { 0.0 }
 }
 
 fn static_load(selection: u8) -> f32
@@ -149,9 +118,9 @@ impl LineArray {
     {
         let mut coupling = [0.0f32; 144];
         for source in 0..12usize {
-            for destination in 0..12usize {
-                coupling[source * 12 + destination] = by_offset[11 + destination - source];
-            }
+            coupling[source * 12..source * 12 + 12].copy_from_slice(
+                &by_offset[11 - source..23 - source],
+            );
         }
         Self {
             selection,
@@ -179,104 +148,81 @@ impl LineArray {
 fn drivers(selection: u8) -> u8
     ensures { result ≡ drivers selection }
 {
-    selection % 2 + selection / 2 % 2 + selection / 4 % 2 + selection / 8 % 2
+    (selection % 16).count_ones() as u8
 }
 
 fn interaction_scale(selection: u8) -> f32
     ensures { result ≡ interaction_scale selection }
 {
-    let source_excess = max(drivers(selection) as f32 - 2.0, 0.0);
+    let source_excess = (drivers(selection) as f32 - 2.0).max(0.0);
     1.0 + COMBINED_WAVEFORM_INTERACTION_GAIN * source_excess * source_excess
 }
 
 fn charges(value: u16) -> [f32; 12]
     ensures { result ≡ build (charge_at value) 12 }
 {
-    let mut charge = [0.0f32; 12];
-    for bit in 0..12usize {
-        charge[bit] = ((value >> bit) % 2) as f32;
-    }
-    charge
+    std::array::from_fn(move |bit| ((value >> bit) % 2) as f32)
 }
 
-fn add_source(
-    coupling: &[f32; 144],
-    source: usize,
-    previous: f32,
-    discharge: [f32; 12],
-) -> [f32; 12]
-    requires { source < 12 }
-    ensures { result ≡ build (λ d. pulled (get_or discharge d nan) previous (get_or coupling.now (source * 12 + d) nan)) 12 }
-{
-    let mut sum = discharge;
-    for destination in 0..12usize {
-        let at = source * 12 + destination;
-        sum[destination] = discharge[destination] + (1.0 - previous) * coupling[at];
-    }
-    sum
-}
-
-// Source by source for all lines at once, which is faster: each line still adds its sources in the Rust's order.
-fn discharges(coupling: &[f32; 144], load: f32, previous: &[f32; 12]) -> [f32; 12]
-    ensures { result ≡ build (λ d. discharge coupling.now load previous.now d 12) 12 }
-{
-    let mut sum = [load; 12];
-    for source in 0..12usize {
-        let next = add_source(coupling, source, previous[source], sum);
-        sum = next;
-    }
-    sum
-}
-
+#[tactic(auto, using(crate::proofs::Literals::is_zero, crate::proofs::Literals::is_one), unfolding(crate::specs::Waveforms::drained))]
 fn drained(interaction: f32, loading: f32, previous: f32, discharge: f32) -> f32
     ensures { result ≡ drained interaction loading previous discharge }
 {
     // Ahead of the test, so that no jump hangs on it.
-    let left = clamp(previous - discharge * interaction * loading, 0.0, 1.0);
-    if previous <= 0.0 {
-        return previous;
-    }
-    left
+    let left = (previous - discharge * interaction * loading).clamp(0.0, 1.0);
+    if previous <= 0.0 { previous } else { left }
 }
 
-fn pass(
-    coupling: &[f32; 144],
-    load: f32,
-    interaction: f32,
-    loading: f32,
-    previous: [f32; 12],
-) -> [f32; 12]
-    ensures { result ≡ pass coupling.now load interaction loading previous }
-{
-    let discharge = discharges(coupling, load, &previous);
-    let mut charge = previous;
-    for destination in 0..12usize {
-        charge[destination] = drained(
-            interaction,
-            loading,
-            previous[destination],
-            discharge[destination],
-        );
+impl LineArray {
+    fn add_source(&self, source: usize, previous: f32, discharge: [f32; 12]) -> [f32; 12]
+        requires { source < 12 }
+        ensures { result ≡ build (λ d. pulled (get_or discharge d nan) previous (get_or self.now.coupling (source * 12 + d) nan)) 12 }
+    {
+        let coupling = &self.coupling;
+        std::array::from_fn(move |line| {
+            discharge[line] + (1.0 - previous) * coupling[source * 12 + line]
+        })
     }
-    charge
+
+    // Source by source for all lines at once, which is faster: each line still adds its sources in the Rust's order.
+    fn discharges(&self, previous: &[f32; 12]) -> [f32; 12]
+        ensures { result ≡ build (λ d. discharge self.now.coupling self.now.static_load previous.now d 12) 12 }
+    {
+        let mut sum = [self.static_load; 12];
+        for (source, charge) in previous.iter().enumerate() {
+            // Of its own name, since no proof is made of an array that is lent and given a call's result.
+            let next = self.add_source(source, *charge, sum);
+            sum = next;
+        }
+        sum
+    }
+
+    // Inlined into the loop of `settle`, its own loops would run half as fast.
+    #[inline(never)]
+    fn pass(&self, interaction: f32, loading: f32, previous: [f32; 12]) -> [f32; 12]
+        ensures { result ≡ pass self.now.coupling self.now.static_load interaction loading previous }
+    {
+        let discharge = self.discharges(&previous);
+        std::array::from_fn(move |line| {
+            drained(interaction, loading, previous[line], discharge[line])
+        })
+    }
 }
 
+#[tactic(auto, unfolding(crate::specs::Waveforms::retained))]
 fn retained(threshold: f32, level: f32, bit: usize) -> u16
     requires { bit < 12 }
     ensures { result ≡ retained threshold level bit }
 {
-    if level >= threshold {
-        return 1u16 << bit;
-    }
-    0
+    if level >= threshold { 1 << bit } else { 0 }
 }
 
 fn code(threshold: f32, charge: &[f32; 12]) -> u16
     ensures { result ≡ code threshold charge.now 12 }
 {
     let mut output = 0u16;
-    for bit in 0..12usize {
-        output = output + retained(threshold, charge[bit], bit);
+    for (bit, level) in charge.iter().enumerate() {
+        output += retained(threshold, *level, bit);
     }
     output
 }
@@ -286,15 +232,17 @@ impl LineArray {
         ensures { result ≡ settled_by self value }
     {
         let at = (self.selection % 16) as usize;
-        let load = self.static_load;
         let interaction = interaction_scale(self.selection);
         let loading = COMBINED_WAVEFORM_LOADING_SCALE[at];
-        let first = pass(&self.coupling, load, interaction, loading, charges(value));
-        let second = pass(&self.coupling, load, interaction, loading, first);
-        let third = pass(&self.coupling, load, interaction, loading, second);
+        let mut charge = charges(value);
+        for _ in 0..3u8 {
+            // Of its own name, as in `discharges`.
+            let next = self.pass(interaction, loading, charge);
+            charge = next;
+        }
         code(
             COMBINED_WAVEFORM_RETENTION_THRESHOLD_BY_SELECTION[at],
-            &third,
+            &charge,
         )
     }
 }

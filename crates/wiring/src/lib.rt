@@ -3,7 +3,7 @@
 #![tactic(auto)]
 
 ghost use Rattle.std.specs.Prelude.{◌≡◌};
-ghost use Rattle.wiring.specs.Wiring.{high as Wiring·high, wired, rings_of, feeds_of, pulse_of, joined_at, code_of, loaded_of, fed_back_of, pulls_down_of};
+ghost use Rattle.wiring.specs.Wiring.{high, wired, rings_of, feeds_of, pulse_of, joined_at, code_of, loaded_of, fed_back_of, pulls_down_of};
 
 use noise::Noise;
 use oscillator::{Control, Tone, WaveformSelect};
@@ -31,45 +31,35 @@ pub struct Wiring {
 }
 
 fn high(selected: bool) -> u16
-    ensures { result ≡ Wiring·high selected }
+    ensures { result ≡ high selected }
 {
-    if selected {
-        return 0;
-    }
-    0x0fff
+    if selected { 0 } else { 0x0fff }
 }
 
 fn rings(control: Control, sel: WaveformSelect) -> bool
     ensures { result ≡ rings_of control sel }
 {
-    if control.ring_enabled {
-        if sel.has(0x02) {
-            return false;
-        }
-        return sel.has(0x01);
-    }
-    false
+    control.ring_enabled && !sel.has(0x02) && sel.has(0x01)
 }
 
 fn feeds(sel: WaveformSelect) -> bool
     ensures { result ≡ feeds_of sel }
 {
-    if sel.has(0x02) {
-        return sel.is_combined();
-    }
-    false
+    sel.has(0x02) && sel.is_combined()
 }
 
 fn pulse(control: Control, sel: WaveformSelect) -> u16
     ensures { result ≡ pulse_of control sel }
 {
     if control.test_enabled {
-        return 0x0fff;
+        0x0fff
+    } else {
+        high(sel.has(0x04))
     }
-    high(sel.has(0x04))
 }
 
 impl Wiring {
+    #[tactic(auto, unfolding(crate::specs::Wiring::wired))]
     pub fn of(control: Control) -> Wiring
         ensures { result ≡ wired control }
     {
@@ -91,6 +81,7 @@ impl Wiring {
         }
     }
 
+    #[tactic(auto, unfolding(crate::specs::Wiring::joined_at))]
     fn joined(self, triangle_phase: u16, tone: Tone, visible: u16) -> u16
         ensures { result ≡ joined_at self triangle_phase tone visible }
     {
@@ -107,53 +98,41 @@ impl Wiring {
         ensures { result ≡ code_of self tone visible modulator_acc }
     {
         let phase = tone.phase();
-        if self.rings {
-            if modulator_acc & 0x0080_0000 == 0 {
-                return self.joined(phase ^ 0x0800, tone, visible);
-            }
-            return self.joined(phase, tone, visible);
+        if self.rings && modulator_acc & 0x0080_0000 == 0 {
+            self.joined(phase ^ 0x0800, tone, visible)
+        } else {
+            self.joined(phase, tone, visible)
         }
-        self.joined(phase, tone, visible)
     }
 
     // The code with its lines loaded: by the pack's entry, or settled where the pack has none.
+    #[tactic(auto, unfolding(crate::specs::Wiring::loaded_of))]
     pub fn loaded(self, pack: &[u16], code: u16) -> u16
         ensures { result ≡ loaded_of self pack.now code }
     {
-        if self.loads {
-            let at = pack::entry(self.base, code);
-            if at < pack.len() {
-                return pack[at] % 4096;
-            }
-            return waveforms::settled_code(self.selection, code) % 4096;
+        if !self.loads {
+            return code;
         }
-        code
+        match pack.get(pack::entry(self.base, code)) {
+            Some(entry) => *entry % 4096,
+            None => waveforms::settled_code(self.selection, code) % 4096,
+        }
     }
 
-    pub fn fed_back(self, tone: Tone, code: u16) -> Tone
+    pub fn fed_back(self, mut tone: Tone, code: u16) -> Tone
         ensures { result ≡ fed_back_of self tone code }
     {
-        if self.feeds {
-            if code & 0x0800 == 0 {
-                let mut next = tone;
-                next.accumulator = next.accumulator % 0x0080_0000;
-                next.msb_rising = false;
-                return next;
-            }
-            return tone;
+        if self.feeds && code & 0x0800 == 0 {
+            tone.accumulator %= 0x0080_0000;
+            tone.msb_rising = false;
         }
         tone
     }
 
+    #[tactic(auto, unfolding(crate::specs::Wiring::pulls_down_of))]
     pub fn pulls_down(self, noise: Noise, cycle: u64) -> bool
         ensures { result ≡ pulls_down_of self noise cycle }
     {
-        if self.drives {
-            if self.selection == 0x0c {
-                return noise.pulse_load_aperture(cycle);
-            }
-            return true;
-        }
-        false
+        self.drives && (self.selection != 0x0c || noise.pulse_load_aperture(cycle))
     }
 }

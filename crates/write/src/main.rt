@@ -3,10 +3,10 @@
 // no field, is told alone.
 #![tactic(auto)]
 
-use script::LineRead;
+use refusals::Refused;
 use std::env;
 use std::io::ErrorKind;
-use writer::{Appended, Writer};
+use writer::Writer;
 
 // The most bytes that a score has: a longer buffer makes no other score.
 const MOST: usize = 65536;
@@ -15,93 +15,71 @@ const MOST: usize = 65536;
 // The line after them begins before that, and one that is cut here is too long for a field.
 const MOST_TEXT: usize = 196608;
 
-fn print_no_field(line: u64) {
-    io::write_all(1, b"line ");
-    io::print_decimal(1, line);
-    io::write_all(1, b" is no field\n");
+// Why a text makes no score.
+#[derive(Clone, Copy, Debug)]
+enum Failure {
+    NoField { line: u64 },
+    Refused(Refused),
 }
 
-fn print_score(out: &[u8], n: usize) {
-    if out.len() < n {
-        return;
-    }
-    io::write_all(1, &out[..n]);
-}
-
-fn write_text(text: &[u8], out: &mut [u8]) {
+// The length of the score that a text makes, which stands first in the buffer.
+fn write_text(text: &[u8], out: &mut [u8]) -> Result<usize, Failure> {
     let mut w = Writer::new();
     let mut at: usize = 0;
     let mut line: u64 = 1;
+    // a `while`, since std splits no slice into lines
     while at < text.len() {
         let end = script::line_end(text, at);
-        match script::field_of(&text[at..end]) {
-            LineRead::Other => {
-                print_no_field(line);
-                return;
-            }
-            LineRead::Got(f) => match w.append(f, out) {
-                Appended::Refused(r) => {
-                    script::print_refused(1, r);
-                    return;
-                }
-                Appended::Next(next) => {
-                    w = next;
-                }
-            },
-        }
+        let f = script::field_of(&text[at..end]).ok_or(Failure::NoField { line })?;
+        w = w.append(f, out).map_err(Failure::Refused)?;
         at = end + 1;
-        line = line + 1;
+        line += 1;
     }
-    print_score(out, w.at);
+    Ok(w.at)
 }
 
-fn write_within(text: &[u8], room: usize, out: &mut [u8]) {
-    if out.len() < room {
-        write_text(text, out);
-        return;
+fn print_score(rt: &HostRuntime, text: &[u8], out: &mut [u8]) -> std::io::Result<()> {
+    match write_text(text, out) {
+        Ok(n) => {
+            if let Some(score) = out.get(..n) {
+                io::write_all(1, score);
+            }
+        }
+        Err(Failure::NoField { line }) => println!(rt; "line {line} is no field")?,
+        Err(Failure::Refused(r)) => script::print_refused(1, r),
     }
-    write_text(text, &mut out[..room]);
+    Ok(())
 }
 
-#[derive(Clone, Copy)]
-enum Asked {
-    Room(usize),
-    Unclear,
-}
-
-// What the words after the program's name ask for. Words that are no text are unclear, too.
-fn arguments(rt: &HostRuntime) -> std::io::Result<Asked> {
+// How long a buffer the words after the program's name ask for. Of words that are unclear, or no text, None.
+fn arguments(rt: &HostRuntime) -> std::io::Result<Option<usize>> {
     let mut words = match env::args(rt) {
         Ok(words) => words,
         Err(error) => {
             if error.kind() == ErrorKind::InvalidData {
-                return Ok(Asked::Unclear);
+                return Ok(None);
             }
             return Err(error);
         }
     };
     let _name = words.next();
     let Some(word) = words.next() else {
-        return Ok(Asked::Room(MOST));
+        return Ok(Some(MOST));
     };
-    let size = script::number_at(word.as_bytes(), 0, 0xffff_ffff);
-    if words.next().is_none() && 0 < word.len() && size.next == word.len() {
-        return Ok(Asked::Room(size.value as usize));
+    match script::number_at(word.as_bytes(), 0, u32::MAX) {
+        Some(size) if size.next == word.len() && words.next().is_none() => Ok(Some(
+            size.value as usize,
+        )),
+        _ => Ok(None),
     }
-    Ok(Asked::Unclear)
 }
 
 fn main(rt: HostRuntime) -> std::io::Result<()> {
-    match arguments(&rt)? {
-        Asked::Unclear => {
-            io::write_all(2, b"usage: write [SIZE] < TEXT\n");
-        }
-        Asked::Room(room) => {
-            let mut text = [0u8; MOST_TEXT];
-            let mut out = [0u8; MOST];
-            let n = io::read_full(0, &mut text);
-            write_within(&text[..n], room, &mut out);
-        }
-    }
-    Ok(())
+    let Some(room) = arguments(&rt)? else {
+        return eprintln!(rt; "usage: write [SIZE] < TEXT");
+    };
+    let mut text = [0u8; MOST_TEXT];
+    let mut out = [0u8; MOST];
+    let n = io::read_full(0, &mut text);
+    print_score(&rt, &text[..n], &mut out[..room.min(MOST)])
 }

@@ -1,40 +1,29 @@
 -- `appended`, one law for each way that a field is judged, and one over all of them; what a field that was taken says
 -- of the writer. Assumes nothing.
+use Rattle.std.specs.Prelude.{Result, Ok, Err}
 use Prim.Native.Nat.{ℕ, ◌+◌, ◌-◌, ◌≤◌, ◌<◌}
 use native.Mathlib.Omega.{arith}
 use mathlib.Core.Bool.{Bool, true, false}
-use mathlib.Core.List.{List}
+use mathlib.Core.List.{List, ◌++◌, append_assoc}
 use mathlib.Core.Path.{◌≡◌, refl, ap, sym, ◌∙◌}
 use lib.Dec.{ltb}
-use lib.ListN.{length, take}
-use lib.Seq.{length-sets}
-use borrow.Author.Tests.{lt-ltb, le-ltb, ltb-true, ltb-false, le-leb}
+use lib.ListN.{length, take, drop}
+use lib.Seq.{drop-drop, sets-eq, length-sets}
+use borrow.Author.Tests.{lt-ltb, le-ltb, ltb-true, ltb-false}
 use Rattle.laws.proofs.Cond.{by_test}
-use Rattle.listing.specs.Text.{Put, copied}
-use Rattle.listing.proofs.Joins.{put_kept, take_put}
 use Rattle.refusals.specs.declared.Refusal.{Refusal}
 use Rattle.refusals.specs.declared.Refusal.TheVariants.{AfterEnd, ScoreLength, NoRoom}
-use Rattle.refusals.specs.declared.Refused.{Refused as Refusing}
-use Rattle.score.specs.declared.Admitted.{Admitted}
-use Rattle.score.specs.declared.Admitted.TheVariants.{Next as Admits, Refused as Unadmitted}
+use Rattle.refusals.specs.declared.Refused.{Refused}
 use Rattle.score.specs.declared.Field.{Field}
 use Rattle.score.specs.declared.Order.{Order}
 use Rattle.score.specs.Fields.{is_end, written}
 use Rattle.score.specs.Stamps.{admit}
 use Rattle.score.proofs.Written.{shape}
-use Rattle.writer.specs.declared.Appended.{Appended}
-use Rattle.writer.specs.declared.Appended.TheVariants.{Next, Refused}
 use Rattle.writer.specs.declared.Writer.{Writer}
-use Rattle.writer.specs.Writer.{refuse, past, placed, appended, taken, buffered}
+use Rattle.writer.specs.Writer.{Appended, refuse, past, placed, appended, taken, buffered}
 
 pub written_some : (f : Field) → (7 ≤ length (written f)) × (length (written f) ≤ 9)
 written_some f = let sh = shape f.stamp f.what in (omega (arith, sh.four, sh.long), omega (arith, sh.six, sh.long))
-
--- a field's bytes, put at the start of nine, stand there whole
-pub nine_hold : (f : Field) {l m : List ℕ} {r : ℕ} → Put l 0 (written f) r m → length l ≡ 9 → (r ≤ length m) × (take r m ≡ written f)
-nine_hold f {l} {m} o h =
-    let k = (written_some f).1 in
-    (omega (arith, put_kept 9 o h, o.place), take_put o (omega (arith, o.place)))
 
 module _ (room : ℕ) (w : Writer) (f : Field) where
   abbrev after : ℕ
@@ -45,11 +34,11 @@ module _ (room : ℕ) (w : Writer) (f : Field) where
   after_end e = rw e
 
   module _ (going : w.ended ≡ false) where
-    pub unadmitted : {why : Refusal} → admit w.order f ≡ Unadmitted why → appended room w f ≡ refuse why w.at
+    pub unadmitted : {why : Refusal} → admit w.order f ≡ Err why → appended room w f ≡ refuse why w.at
     unfolding appended
     unadmitted a = rw (going, a)
 
-    module _ {o : Order} (a : admit w.order f ≡ Admits o) where
+    module _ {o : Order} (a : admit w.order f ≡ Ok o) where
       pub too_long : 65536 < after → appended room w f ≡ refuse ScoreLength w.at
       unfolding appended
       too_long h = rw (going, a, lt-ltb 65536 after h)
@@ -59,7 +48,7 @@ module _ (room : ℕ) (w : Writer) (f : Field) where
         unfolding appended
         no_room r = rw (going, a, le-ltb 65536 after h, lt-ltb (room - w.at) (length (written f)) (omega (arith, (written_some f).0)))
 
-        pub fitting : after ≤ room → appended room w f ≡ Next (past w f o)
+        pub fitting : after ≤ room → appended room w f ≡ Ok (past w f o)
         unfolding appended
         fitting r = rw (going, a, le-ltb 65536 after h, le-ltb (room - w.at) (length (written f)) (omega arith))
 
@@ -67,18 +56,18 @@ module _ (room : ℕ) (w : Writer) (f : Field) where
   pub by_answer
       : (P : Appended → Type 0)
       → (w.ended ≡ true → P (refuse AfterEnd w.at))
-      → ((why : Refusal) → w.ended ≡ false → admit w.order f ≡ Unadmitted why → P (refuse why w.at))
+      → ((why : Refusal) → w.ended ≡ false → admit w.order f ≡ Err why → P (refuse why w.at))
       → (w.ended ≡ false → 65536 < after → P (refuse ScoreLength w.at))
       → (w.ended ≡ false → after ≤ 65536 → room < after → P (refuse NoRoom w.at))
-      → ((o : Order) → w.ended ≡ false → admit w.order f ≡ Admits o → after ≤ 65536 → after ≤ room → P (Next (past w f o)))
+      → ((o : Order) → w.ended ≡ false → admit w.order f ≡ Ok o → after ≤ 65536 → after ≤ room → P (Ok (past w f o)))
       → P (appended room w f)
   unfolding appended
   by_answer P over late long full next =
       by_test P w.ended _ _ over (λ going. go going (admit w.order f) refl)
     where
-      go : w.ended ≡ false → (a : Admitted) → admit w.order f ≡ a → P (placed room w f a)
-      go going (Unadmitted why) e = late why going e
-      go going (Admits o) e =
+      go : w.ended ≡ false → (a : Result Order Refusal) → admit w.order f ≡ a → P (placed room w f a)
+      go going (Err why) e = late why going e
+      go going (Ok o) e =
           by_test P (ltb 65536 after) _ _ (λ h. long going (ltb-true _ _ h))
           (λ h. by_test P (ltb (room - w.at) (length (written f))) _ _
           (λ r. full going (ltb-false _ _ h) (omega (arith, ltb-true (room - w.at) (length (written f)) r)))
@@ -87,24 +76,20 @@ module _ (room : ℕ) (w : Writer) (f : Field) where
 -- a field that was taken: the writer was open, the stamp is admitted, and the field fits in score and buffer
 pub record Takes (room : ℕ) (w : Writer) (f : Field) (w' : Writer) : Type 0 where
   pub going : w.ended ≡ false
-  pub admitted : admit w.order f ≡ Admits w'.order
+  pub admitted : admit w.order f ≡ Ok w'.order
   pub short : w.at + length (written f) ≤ 65536
   pub fits : w.at + length (written f) ≤ room
   pub reached : w'.at ≡ w.at + length (written f)
   pub closes : w'.ended ≡ is_end f.what
 
-pub takes : {room : ℕ} {w : Writer} {f : Field} {w' : Writer} → appended room w f ≡ Next w' → Takes room w f w'
+pub takes : {room : ℕ} {w : Writer} {f : Field} {w' : Writer} → appended room w f ≡ Ok w' → Takes room w f w'
 takes {room} {w} {f} {w'} =
-    by_answer room w f (λ (a : Appended). a ≡ Next w' → Takes room w f w')
+    by_answer room w f (λ (a : Appended). a ≡ Ok w' → Takes room w f w')
     (λ _. refuses) (λ _ _ _. refuses) (λ _ _. refuses) (λ _ _ _. refuses)
-    (λ o going a h r e. record { going = going; admitted = a ∙ ap Admits (cc); short = h; fits = r; reached = cc; closes = cc })
+    (λ o going a h r e. record { going = going; admitted = a ∙ ap Ok (cc); short = h; fits = r; reached = cc; closes = cc })
   where
-    refuses : {t : Refusing} → Refused t ≡ Next w' → Takes room w f w'
+    refuses : {t : Refused} → Err t ≡ Ok w' → Takes room w f w'
     refuses e = let z : ◌≡◌ {A = ℕ} 0 1 = cc in absurd (omega arith)
-
-module _ (w : Writer) (f : Field) where
-  pub past_is : {n : ℕ} {o : Order} {b : Bool} → n ≡ length (written f) → b ≡ is_end f.what → Next (record { at = w.at + n; order = o; ended = b }) ≡ Next (past w f o)
-  past_is p q = rw (p, q)
 
 module _ (l : List ℕ) (w : Writer) (f : Field) where
   -- what `append` promises, by its answer
@@ -112,15 +97,20 @@ module _ (l : List ℕ) (w : Writer) (f : Field) where
   unfolding buffered
   promised e = (sym e, ap (taken l w f) (sym e))
 
-  -- of a field that fits: `copy_into` puts its bytes
-  pub copies
-      : {o : Order} {xs m : List ℕ}
-      → appended (length l) w f ≡ Next (past w f o)
-      → xs ≡ written f
+  -- of a field that fits: its bytes between those before it and those after it
+  pub placed_at
+      : {o : Order} {b : Bool} {xs : List ℕ} {k : ℕ}
+      → appended (length l) w f ≡ Ok (past w f o)
       → w.at + length (written f) ≤ length l
-      → m ≡ copied l w.at xs
-      → (Next (past w f o) ≡ appended (length l) w f) × (m ≡ buffered l w f)
-  copies e is h c = let p = promised e in (p.0, c ∙ rw (is, le-leb (w.at + length (written f)) (length l) h) p.1)
+      → xs ≡ written f
+      → b ≡ is_end f.what
+      → k ≡ length (written f)
+      → (Ok (record { at = w.at + length xs; order = o; ended = b }) ≡ appended (length l) w f)
+      × (take w.at l ++ (xs ++ drop k (drop w.at l)) ≡ buffered l w f)
+  placed_at e h is i n =
+      let p = promised e in
+      let m = sets-eq (written f) l w.at h ∙ append_assoc (take w.at l) (written f) (drop (w.at + length (written f)) l) in
+      rw (is, i, n, drop-drop (length (written f)) w.at l) (p.0, sym m ∙ p.1)
 
 -- a call keeps the buffer's length
 pub buffered_length : (l : List ℕ) (w : Writer) (f : Field) → length (buffered l w f) ≡ length l
@@ -128,5 +118,5 @@ unfolding buffered
 buffered_length l w f = go (appended (length l) w f)
   where
     go : (a : Appended) → length (taken l w f a) ≡ length l
-    go (Next _) = length-sets l w.at (written f)
-    go (Refused _) = refl
+    go (Ok _) = length-sets l w.at (written f)
+    go (Err _) = refl

@@ -1,10 +1,8 @@
 -- A score in the making: calls of the writer one after another, each with what the one before left.
-use Rattle.std.specs.Prelude.{List, [], ◌∷◌, ℕ, length}
+use Rattle.std.specs.Prelude.{List, [], ◌∷◌, ℕ, length, Ok, Err}
 use Rattle.score.specs.declared.Field.{Field}
-use Rattle.writer.specs.declared.Appended.{Appended}
-use Rattle.writer.specs.declared.Appended.TheVariants.{Next, Refused}
 use Rattle.writer.specs.declared.Writer.{Writer}
-use Rattle.writer.specs.Writer.{afresh, appended, taken}
+use Rattle.writer.specs.Writer.{Appended, afresh, appended, taken}
 
 -- a writer and the buffer that it is lent
 pub record Writing : Type 0 where
@@ -21,8 +19,8 @@ answer_to d f = appended (length d.buffer) d.writer f
 
 -- the writer that the caller goes on with
 abbrev pub onward : Writer → Appended → Writer
-onward w (Next w') = w'
-onward w (Refused _) = w
+onward w (Ok w') = w'
+onward w (Err _) = w
 
 abbrev pub answered : Writing → Field → Appended → Writing
 answered d f a = record { writer = onward d.writer a; buffer = taken d.buffer d.writer f a }
@@ -37,8 +35,8 @@ called_all d [] = d
 called_all d (f ∷ fs) = called_all (called d f) fs
 
 abbrev pub keep : Field → Appended → List Field → List Field
-keep f (Next _) fs = f ∷ fs
-keep f (Refused _) fs = fs
+keep f (Ok _) fs = f ∷ fs
+keep f (Err _) fs = fs
 
 -- those of the fields that were taken, in order
 unfoldable pub taken_of : Writing → List Field → List Field

@@ -2,86 +2,39 @@
 // is kept for the end, which takes 7 bytes: that is the caller's care.
 #![tactic(auto)]
 
-ghost use Rattle.std.specs.Prelude.{◌≡◌, ◌-◌, length};
-ghost use Rattle.listing.specs.Text.{Put};
+ghost use Rattle.std.specs.Prelude.{◌≡◌, length};
 ghost use Rattle.score.specs.Fields.{written};
-ghost use Rattle.writer.specs.Writer.{afresh, head, refuse, appended, buffered};
+ghost use Rattle.writer.specs.Writer.{afresh, appended, buffered};
 
 use refusals::{Refusal, Refused};
-use score::{Admitted, Field, Order, What};
+use score::{Field, Order, What};
 
 // The place reached, the order that the next field meets, and whether the end was written.
-#[derive(Clone, Copy)]
+#[derive(Clone, Copy, Debug, PartialEq, Eq)]
 pub struct Writer {
     pub at: usize,
     pub order: Order,
     pub ended: bool,
 }
 
-// The writer after a field that was taken; a refused call leaves the writer that it was made with.
-#[derive(Clone, Copy)]
-pub enum Appended {
-    Next(Writer),
-    Refused(Refused),
-}
+// The most bytes that a score has.
+const MOST: usize = 65536;
 
 // The most bytes that a field has.
-const MOST: usize = 9;
+const MOST_FIELD: usize = 9;
 
-// Tag, length and stamp, at the start of a field's bytes.
-fn put_head(bytes: &mut [u8; MOST], tag: u8, len: u8, stamp: u32) -> usize
-    ensures { Put bytes.old 0 (head tag len stamp) result bytes.new }
+// A field's bytes, which stand in the space that is lent for them.
+fn field_bytes<'a>(space: &'a mut [u8; MOST_FIELD], f: Field) -> &'a [u8]
+    ensures { result.now ≡ written f }
 {
-    let second = stamp / 256;
-    let third = second / 256;
-    let fourth = third / 256;
-    bytes[0] = tag;
-    bytes[1] = len;
-    bytes[2] = 0;
-    bytes[3] = (stamp % 256) as u8;
-    bytes[4] = (second % 256) as u8;
-    bytes[5] = (third % 256) as u8;
-    bytes[6] = (fourth % 256) as u8;
-    7
-}
-
-fn put_field(bytes: &mut [u8; MOST], f: Field) -> usize
-    ensures { Put bytes.old 0 (written f) result bytes.new }
-{
-    let stamp = f.stamp;
-    let what = f.what;
-    match what {
-        What::Write { address, value } => {
-            put_head(bytes, 0x01, 6, stamp);
-            bytes[7] = address;
-            bytes[8] = value;
-            9
-        }
-        What::Read { address } => {
-            put_head(bytes, 0x02, 5, stamp);
-            bytes[7] = address;
-            8
-        }
-        What::Levels => put_head(bytes, 0x03, 4, stamp),
-        What::Watch => put_head(bytes, 0x04, 4, stamp),
-        What::End => put_head(bytes, 0x7f, 4, stamp),
-    }
-}
-
-// What is left from a place on: nothing where the place is beyond the end.
-fn left(end: usize, at: usize) -> usize
-    ensures { result ≡ end - at }
-{
-    if end < at {
-        return 0;
-    }
-    end - at
-}
-
-fn refuse(why: Refusal, place: usize) -> Appended
-    ensures { result ≡ refuse why place }
-{
-    Appended::Refused(Refused { why, place })
+    let (n, first, second) = match f.what {
+        What::Write { address, value } => (6, address, value),
+        What::Read { address } => (5, address, 0),
+        What::Levels | What::Watch | What::End => (4, 0, 0),
+    };
+    let [a, b, c, d] = f.stamp.to_le_bytes();
+    *space = [f.what.tag(), n, 0, a, b, c, d, first, second];
+    &space[..3 + n as usize]
 }
 
 impl Writer {
@@ -95,38 +48,34 @@ impl Writer {
         }
     }
 
-    pub fn append(self, f: Field, out: &mut [u8]) -> Appended
+    // The writer after a field that was taken; a refused call leaves the writer that it was made with.
+    pub fn append(self, f: Field, out: &mut [u8]) -> Result<Writer, Refused>
         ensures { (result ≡ appended (length out.old) self f) × (out.new ≡ buffered out.old self f) }
     {
         let at = self.at;
         if self.ended {
-            return refuse(Refusal::AfterEnd, at);
+            return Err(Refusal::AfterEnd.at(at));
         }
-        match score::admit(self.order, f) {
-            Admitted::Refused(why) => {
-                return refuse(why, at);
-            }
-            Admitted::Next(order) => {
-                let mut bytes = [0u8; MOST];
-                let n = put_field(&mut bytes, f);
-                let allowed = left(65536, at);
-                let room = left(out.len(), at);
-                if allowed < n {
-                    return refuse(Refusal::ScoreLength, at);
-                }
-                if room < n {
-                    return refuse(Refusal::NoRoom, at);
-                }
-                listing::copy_into(out, at, &bytes[..n]);
-                let what = f.what;
-                let ended = what.is_end();
-                let next = Writer {
-                    at: at + n,
-                    order,
-                    ended,
-                };
-                return Appended::Next(next);
-            }
+        // no `map_err(..)?`: what its closure makes of the refusal is lost to the proof of `ensures`
+        let order = match score::admit(self.order, f) {
+            Ok(order) => order,
+            Err(why) => return Err(why.at(at)),
+        };
+        let mut space = [0u8; MOST_FIELD];
+        let bytes = field_bytes(&mut space, f);
+        let n = bytes.len();
+        if MOST.saturating_sub(at) < n {
+            return Err(Refusal::ScoreLength.at(at));
         }
+        if out.len().saturating_sub(at) < n {
+            return Err(Refusal::NoRoom.at(at));
+        }
+        out[at..at + n].copy_from_slice(bytes);
+        let next = Writer {
+            at: at + n,
+            order,
+            ended: f.what.is_end(),
+        };
+        Ok(next)
     }
 }

@@ -8,13 +8,13 @@ use Rattle.planner.proofs.Counts.{settled_when, held_none, held_now, count_on, c
 use Rattle.planner.proofs.held_within.Goals as goal
 
 pub returns-then-held : goal.returns-then-held
-returns-then-held c = omega (arith, c.loop-i.invariant.1, held_now (c.args.n - c.loop-i.i) c.loop-i.now (sym c.held.ensures ∙ c.if-held.true))
+returns-then-held c = omega (arith, c.loop-i.invariant.1, held_now (c.args.n - c.loop-i.i) c.loop-i.e (sym c.held.ensures ∙ c.if-held.true))
 
 pub returns-then-is_settled : goal.returns-then-is_settled
 returns-then-is_settled c =
-    let settled = settled_when c.loop-i.now (sym c.is_settled.ensures ∙ c.if-is_settled.true) in
-    let count = settled_counts c.loop-i.now (release_period c.loop-i.now) (c.args.n - c.loop-i.i) settled in
-    omega (arith, c.loop-i.invariant.1, c.least.ensures, c.settled_clock.ensures, count)
+    let settled = settled_when c.loop-i.e (sym c.is_settled.ensures ∙ c.if-is_settled.true) in
+    let count = settled_counts c.loop-i.e (release_period c.loop-i.e) (c.args.n - c.loop-i.i) settled in
+    omega (arith, c.loop-i.invariant.1, c.min.ensures, c.settled_clock.ensures, count)
 
 pub returns-then-n-i : goal.returns-then-n-i
 returns-then-n-i c =
@@ -31,4 +31,4 @@ loop-i-preserved c =
 pub returns : goal.returns
 returns c =
     let none : c.args.n - c.loop-i.i ≡ 0 = omega arith in
-    omega (arith, c.loop-i.invariant.1, ap (λ (k : ℕ). held_within k c.loop-i.now) none, held_none c.loop-i.now)
+    omega (arith, c.loop-i.invariant.1, ap (λ (k : ℕ). held_within k c.loop-i.e) none, held_none c.loop-i.e)

@@ -6,7 +6,7 @@ use Rattle.planner.specs.Planner.{held_within}
 use Rattle.planner.proofs.held_within.Given as goal
 
 abbrev pub invariant-loop-i : goal.invariant-loop-i
-invariant-loop-i l = (l.i ≤ l.n) × (held_within l.n l.initial.now ≡ l.i + held_within (l.n - l.i) l.now)
+invariant-loop-i l = (l.i ≤ l.n) × (held_within l.n l.initial.e ≡ l.i + held_within (l.n - l.i) l.e)
 
 abbrev pub decreases-loop-i : goal.decreases-loop-i
 decreases-loop-i l = l.n - l.i

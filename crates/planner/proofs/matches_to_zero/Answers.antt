@@ -4,4 +4,4 @@ use Rattle.planner.proofs.Falls.{table_right}
 use Rattle.planner.proofs.matches_to_zero.Goals as goal
 
 pub returns : goal.returns
-returns c = table_right _ c.table-matches.ensures c.args.level (omega arith)
+returns c = table_right _ c.table.ensures c.args.level (omega arith)

@@ -5,7 +5,7 @@ use Rattle.std.proofs.Common.{ℕ, ◌+◌, ◌-◌, take, ◌≤◌, ◌==◌, 
 use Rattle.std.proofs.lemmas.Iterator.{YieldsList-from_slice}
 use Rattle.std.proofs.lemmas.Iterator.Search.{position_from_yields_List}
 use Rattle.script.specs.Lines.{index_of}
-use Rattle.script.proofs.Lines.{end_past, end_within}
+use Rattle.script.proofs.Lines.{end_within}
 use Rattle.script.proofs.Ends.{index_le}
 use Rattle.script.proofs.line_end.Goals as goal
 
@@ -21,9 +21,6 @@ lost {k = k} {n = n} false t e f = ltb-false k n t
 -- the bytes at a place are the slice from there to the end
 from_there : (text : List ℕ) (at : ℕ) {s : List ℕ} → s ≡ take (length text - at) (drop at text) → s ≡ drop at text
 from_there text at e = e ∙ take_all (length text - at) (drop at text) (omega (arith, length-drop at text))
-
-pub returns-then-text-at : goal.returns-then-text-at
-returns-then-text-at c = end_past _ _ c.if-text-at.true
 
 pub returns-in-Some : goal.returns-in-Some
 returns-in-Some c =

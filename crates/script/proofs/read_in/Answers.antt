@@ -1,12 +1,8 @@
--- `read_in` gives a read with the line's two numbers.
+-- `read_in` gives a read with the line's two numbers, which are a stamp and a byte.
 use native.Mathlib.Omega.{arith}
-use Rattle.script.specs.Lines.{read_in}
+use mathlib.Core.Path.{sym, ◌∙◌}
 use Rattle.script.proofs.Lines.{after_byte}
 use Rattle.script.proofs.read_in.Goals as goal
 
 pub overflow_cast-result : goal.overflow_cast-result
-overflow_cast-result c = omega (arith, after_byte c.args.line.now c.number_after-stamp.result.next c.number_after-address.ensures)
-
-pub returns : goal.returns
-unfolding read_in
-returns c = rw (← c.number_after-stamp.ensures, ← c.number_after-address.ensures)
+overflow_cast-result c = omega (arith, after_byte _ _ (sym c.number_after-2.ensures ∙ c.in_ok-address.was))

@@ -1,12 +1,10 @@
 -- `charges` is 1.0 for each line that the value has, and 0.0 for the others.
-use mathlib.Core.Path.{refl}
-use Rattle.laws.proofs.Build.{built_none, built_more}
+use Rattle.std.proofs.Common.{rules}
+use Rattle.std.specs.Float.{nan}
 use Rattle.waveforms.specs.Waveforms.{charge_at}
+use Rattle.waveforms.proofs.Arrays.{from_fn_builds}
 use Rattle.waveforms.proofs.charges.Goals as goal
 
-pub loop-bit-init : goal.loop-bit-init
-loop-bit-init c = built_none (charge_at c.args.value) 12 _ refl
-
-pub loop-bit-preserved : goal.loop-bit-preserved
+pub returns : goal.returns
 unfolding charge_at
-loop-bit-preserved c = built_more (charge_at c.args.value) 12 c.loop-bit.invariant c.loop-bit-test.true _ refl
+returns c = from_fn_builds _ (charge_at c.args.value) 12 _ nan _ c.from_fn.ensures.items (λ k x q h e. search rules)

@@ -2,53 +2,47 @@
 -- 14, 4, 13, in that order, with the buffer as it was.
 use native.Mathlib.Omega.{arith}
 use Prim.Native.Nat.{◌+◌, ◌≤◌}
-use mathlib.Core.Path.{refl, sym, ◌∙◌}
+use mathlib.Core.Path.{ap, sym, ◌∙◌}
 use lib.ListN.{length}
-use lib.Seq.{length-take-le}
 use Rattle.score.specs.Fields.{written}
-use Rattle.writer.proofs.Answers.{written_some, nine_hold, after_end, unadmitted, too_long, no_room, fitting, promised, past_is, copies}
+use Rattle.writer.proofs.Answers.{written_some, after_end, unadmitted, too_long, no_room, fitting, promised, placed_at}
 use Rattle.writer.proofs.Writer.append.Goals as goal
 
 pub returns-then-self : goal.returns-then-self
 returns-then-self c =
     let a = c.args in
-    rw c.refuse.ensures (promised a.out.now a.self a.f (after_end _ a.self a.f c.if-self.true))
+    rw c.at.ensures (promised a.out.now a.self a.f (after_end _ a.self a.f c.if-self.true))
 
-pub returns-in-Refused : goal.returns-in-Refused
-returns-in-Refused c =
+pub returns-in-Err : goal.returns-in-Err
+returns-in-Err c =
     let a = c.args in
-    let why = sym c.admit.ensures ∙ c.in-Refused.is in
-    rw c.refuse-in-Refused.ensures (promised a.out.now a.self a.f (unadmitted _ a.self a.f c.if-self.false why))
+    let why = sym c.admit.ensures ∙ c.in-Err.is in
+    rw c.at-in-Err.ensures (promised a.out.now a.self a.f (unadmitted _ a.self a.f c.if-self.false why))
 
-pub returns-then-allowed-n : goal.returns-then-allowed-n
-returns-then-allowed-n c =
+pub slice_bounds-copy_from_slice-end : goal.slice_bounds-copy_from_slice-end
+slice_bounds-copy_from_slice-end c = omega (arith, ap length c.field_bytes-bytes.ensures, (written_some c.args.f).0)
+
+pub returns-then-saturating_sub-n : goal.returns-then-saturating_sub-n
+returns-then-saturating_sub-n c =
     let a = c.args in
-    let go = sym c.admit.ensures ∙ c.in-Next.is in
-    rw c.refuse-then-allowed-n.ensures
-    (promised a.out.now a.self a.f (too_long _ a.self a.f c.if-self.false go (omega (arith, c.put_field-n.ensures.place, c.left-allowed.ensures))))
+    let go = sym c.admit.ensures ∙ c.in-Ok.is in
+    let n = ap length c.field_bytes-bytes.ensures in
+    rw c.at-then-saturating_sub-n.ensures (promised a.out.now a.self a.f (too_long _ a.self a.f c.if-self.false go (omega (arith, n))))
 
-pub returns-then-room-n : goal.returns-then-room-n
-returns-then-room-n c =
+pub returns-then-saturating_sub-n-2 : goal.returns-then-saturating_sub-n-2
+returns-then-saturating_sub-n-2 c =
     let a = c.args in
-    let go = sym c.admit.ensures ∙ c.in-Next.is in
-    let n = c.put_field-n.ensures.place in
-    rw c.refuse-then-room-n.ensures
-    (promised a.out.now a.self a.f
-    (no_room _ a.self a.f c.if-self.false go (omega (arith, n, c.left-allowed.ensures, (written_some a.f).0)) (omega (arith, n, c.left-room.ensures))))
+    let go = sym c.admit.ensures ∙ c.in-Ok.is in
+    let n = ap length c.field_bytes-bytes.ensures in
+    rw c.at-then-saturating_sub-n-2.ensures
+    (promised a.out.now a.self a.f (no_room _ a.self a.f c.if-self.false go (omega (arith, n, (written_some a.f).0)) (omega (arith, n))))
 
-pub slice_bounds-bytes-end : goal.slice_bounds-bytes-end
-slice_bounds-bytes-end c = (nine_hold c.args.f c.put_field-n.ensures refl).0
-
-pub slice_bounds-copy_into-end : goal.slice_bounds-copy_into-end
-slice_bounds-copy_into-end c = sym (length-take-le _ _ (nine_hold c.args.f c.put_field-n.ensures refl).0)
-
-pub returns-in-Next : goal.returns-in-Next
-returns-in-Next c =
+pub returns : goal.returns
+returns c =
     let a = c.args in
-    let go = sym c.admit.ensures ∙ c.in-Next.is in
-    let put = c.put_field-n.ensures in
+    let go = sym c.admit.ensures ∙ c.in-Ok.is in
+    let is = c.field_bytes-bytes.ensures in
     let some = (written_some a.f).0 in
-    let h : a.self.at + length (written a.f) ≤ length a.out.now = omega (arith, put.place, c.left-room.ensures, some) in
-    let e = fitting _ a.self a.f c.if-self.false go (omega (arith, put.place, c.left-allowed.ensures, some)) h in
-    let p = copies a.out.now a.self a.f e (nine_hold a.f put refl).1 h c.copy_into.ensures.1 in
-    (past_is a.self a.f (omega (arith, put.place)) c.is_end-ended.ensures ∙ p.0, p.1)
+    let h : a.self.at + length (written a.f) ≤ length a.out.now = omega (arith, ap length is, some) in
+    let e = fitting _ a.self a.f c.if-self.false go (omega (arith, ap length is, some)) h in
+    rw c.copy_from_slice.ensures.after (placed_at a.out.now a.self a.f e h is c.is_end.ensures (omega (arith, ap length is)))

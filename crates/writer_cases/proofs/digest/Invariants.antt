@@ -1,9 +1,0 @@
--- `digest` comes to an end, and its sum never overflows.
-use Rattle.std.proofs.Common.{◌-◌, ◌≤◌, length}
-use Rattle.writer_cases.proofs.digest.Given as goal
-
-abbrev pub invariant-loop-i : goal.invariant-loop-i
-invariant-loop-i l = l.i ≤ length l.buffer
-
-abbrev pub decreases-loop-i : goal.decreases-loop-i
-decreases-loop-i l = length l.buffer - l.i
