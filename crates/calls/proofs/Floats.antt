@@ -14,7 +14,7 @@ use Rattle.floating.specs.Floating.{captured, sampled_once, samples_by}
 use Rattle.floating.specs.declared.FloatingBus.{FloatingBus}
 use Rattle.floating.proofs.Fade.{lines_whole, lines_gone}
 use Rattle.floating.proofs.Once.{once_itself, leak_empty}
-use Rattle.oscillator.specs.Oscillator.{written_control, written_bus, reset_phase, written as the-written-Oscillator, synchronised as oscillator_synchronised, ticked_by as oscillator_ticked_by}
+use Rattle.oscillator.specs.Oscillator.{written_control, written_bus, reset_phase, written as oscillator_written, synchronised as oscillator_synchronised, ticked_by as oscillator_ticked_by}
 use Rattle.oscillator.specs.declared.Control.{Control}
 use Rattle.oscillator.specs.declared.Oscillator.{Oscillator}
 use Rattle.oscillator.proofs.Floats.{tick_control, tick_lines, tick_floats, write_captures}
@@ -70,8 +70,8 @@ record Stays (v : Voice) (o : Oscillator) : Type 0 where
   off : o.control.waveform ≡ waveform_of v
   lines : o.bus ≡ v.oscillator.bus
 
-control_stays : (v : Voice) (value cycle : ℕ) → waveform_of v ≡ 0 → value / 2 ^ 4 ≡ 0 → Stays v (the-written-Oscillator v.oscillator value cycle)
-unfolding the-written-Oscillator written_control written_bus
+control_stays : (v : Voice) (value cycle : ℕ) → waveform_of v ≡ 0 → value / 2 ^ 4 ≡ 0 → Stays v (oscillator_written v.oscillator value cycle)
+unfolding oscillator_written written_control written_bus
 control_stays v value cycle z e = record { off = e ∙ sym z; lines = simp (z, e) }
 
 register_stays : (v : Voice) (r value cycle : ℕ) → waveform_of v ≡ 0 → (r ≡ 4 → value / 2 ^ 4 ≡ 0) → Stays v (written_voice v r value cycle).oscillator
@@ -146,10 +146,10 @@ starts
     → Latched (of w c)
     → Captures w c address value
     → Drifts (of w (written c address value)) (captured (code_of (of w c)) c.cycle)
-unfolding written_voice written_oscillator the-written-Oscillator written_control captured
+unfolding written_voice written_oscillator oscillator_written written_control captured
 starts w c address value l h =
     let o = (of w c).oscillator in
-    let e : (of w (written c address value)).oscillator ≡ the-written-Oscillator o value c.cycle =
+    let e : (of w (written c address value)).oscillator ≡ oscillator_written o value c.cycle =
     ap (λ (v : Voice). v.oscillator) (write_control w c address value h.control) in
     record {
       off = ap (λ (x : Oscillator). x.control.waveform) e ∙ h.off;

@@ -23,7 +23,7 @@ use Rattle.floating.proofs.Once.{ahead_one as floating_ahead_one}
 use Rattle.oscillator.specs.Ways.{afresh, stepwise}
 use Rattle.oscillator.specs.Selection.{is_off}
 use Rattle.oscillator.specs.Oscillator.{selected, rising, clocked_tone, sampled_bus_by, evaluated_by, fed_back, couples, pulls_down, coupled_noise, pulled_noise, latched_noise, latched_code, written_control, written_bus, tested_noise}
-use Rattle.oscillator.specs.Oscillator.{fresh as oscillator_fresh, clocked_by as oscillator_clocked_by, voiced_by as oscillator_voiced_by, written as the-written-Oscillator, synchronised as oscillator_synchronised, ticked_by as oscillator_ticked_by}
+use Rattle.oscillator.specs.Oscillator.{fresh as oscillator_fresh, clocked_by as oscillator_clocked_by, voiced_by as oscillator_voiced_by, written as oscillator_written, synchronised as oscillator_synchronised, ticked_by as oscillator_ticked_by}
 use Rattle.oscillator.specs.declared.Control.{Control}
 use Rattle.oscillator.specs.declared.Oscillator.{Oscillator}
 use Rattle.oscillator.proofs.Alike.{Alike}
@@ -127,8 +127,8 @@ voice_ahead v modulator cycle taken early h =
 
 -- ---- a write, at the present cycle
 
-control_ahead : (o : Oscillator) (value cycle : ℕ) → cycle < 2 ^ 63 → LeaksAhead o cycle → LeaksAhead (the-written-Oscillator o value cycle) cycle
-unfolding the-written-Oscillator written_bus tested_noise left_test floating_fresh
+control_ahead : (o : Oscillator) (value cycle : ℕ) → cycle < 2 ^ 63 → LeaksAhead o cycle → LeaksAhead (oscillator_written o value cycle) cycle
+unfolding oscillator_written written_bus tested_noise left_test floating_fresh
 control_ahead o value cycle early h =
     record {
       recovers = λ on.

@@ -15,7 +15,7 @@ use Rattle.release.proofs.Stays.{held_is_zero}
 use Rattle.release.proofs.Timed.{clock_timed, gate_set_timed, attack_decay_timed, sustain_release_timed, reset_timed, fresh_timed}
 use Rattle.noise.specs.declared.NoiseGenerator.{NoiseGenerator}
 use Rattle.noise.proofs.Shows.{Shows, fresh_shows, stepped_shows, coupled_shows, pulled_shows, entered_shows, left_shows}
-use Rattle.oscillator.specs.Oscillator.{fresh as oscillator_fresh, clocked_tone, clocked_by as oscillator_clocked_by, compared_tone, evaluated_by, feeds_back, fed_back_tone, fed_back, latched_tone, couples, pulls_down, coupled_noise, pulled_noise, latched_noise, latched_code, tested_noise, reset_phase, tested_tone, written as the-written-Oscillator, synchronised as oscillator_synchronised, voiced_by as oscillator_voiced_by}
+use Rattle.oscillator.specs.Oscillator.{fresh as oscillator_fresh, clocked_tone, clocked_by as oscillator_clocked_by, compared_tone, evaluated_by, feeds_back, fed_back_tone, fed_back, latched_tone, couples, pulls_down, coupled_noise, pulled_noise, latched_noise, latched_code, tested_noise, reset_phase, tested_tone, written as oscillator_written, synchronised as oscillator_synchronised, voiced_by as oscillator_voiced_by}
 use Rattle.oscillator.specs.declared.Control.{Control}
 use Rattle.oscillator.specs.declared.Tone.{Tone}
 use Rattle.oscillator.specs.Ways.{stepwise}
@@ -76,7 +76,7 @@ tick_shows v modulator cycle true h = latched_shows _ v.oscillator.control _ _ (
 tick_shows v modulator cycle false h = latched_shows _ v.oscillator.control _ _ (stepped_shows v.oscillator.noise _ _ _ h)
 
 write_shows : (v : Voice) (r value cycle : ℕ) → Shows v.oscillator.noise → Shows (written_voice v r value cycle).oscillator.noise
-unfolding the-written-Oscillator
+unfolding oscillator_written
 write_shows v r value cycle h = write_oscillator (λ o. Shows o.noise) v r value cycle (λ _ _. h) (λ _. tested_shows v.oscillator.noise _ _ _ _ h) h
 
 -- ---- the phase has 24 bits
@@ -97,7 +97,7 @@ tested_fits t false true h = omega arith
 tested_fits t false false h = h
 
 write_fits : (v : Voice) (r value cycle : ℕ) → Fits (phase_of v) → Fits (phase_of (written_voice v r value cycle))
-unfolding the-written-Oscillator
+unfolding oscillator_written
 write_fits v r value cycle h = write_oscillator (λ o. Fits o.tone.accumulator) v r value cycle (λ _ _. h) (λ _. tested_fits v.oscillator.tone _ _ h) h
 
 -- ---- all of it

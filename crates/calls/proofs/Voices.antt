@@ -13,7 +13,7 @@ use Rattle.bus.specs.Bus.{driven}
 use Rattle.bus.specs.declared.InternalDataBus.{InternalDataBus}
 use Rattle.envelope.specs.Envelope.{clocked as envelope_clocked, clocks as envelope_clocks, target_refreshed, attack_decay_set, sustain_release_set, gate_set}
 use Rattle.envelope.specs.declared.Envelope.{Envelope}
-use Rattle.oscillator.specs.Oscillator.{written_control, tuned, reset_phase, tested_tone, written as the-written-Oscillator}
+use Rattle.oscillator.specs.Oscillator.{written_control, tuned, reset_phase, tested_tone, written as oscillator_written}
 use Rattle.oscillator.specs.declared.Oscillator.{Oscillator}
 use Rattle.oscillator.specs.Ways.{Ways, stepwise}
 use Rattle.sid.specs.Sid.{fresh_voice, fresh, register, with_bus, reset_voice, reset, written_oscillator, written_envelope, written_voice, written_to, written, read_driven, read_at, with_pot_x, with_pot_y, clocked_voice, clocked_voice_by, next_cycle, clocked_by, voiced, voiced_by, voiced0_by, voiced1_by, voiced2_by, synchronised_if, synchronised, ticked_by, ticks_by, Call, write, read, tick, clear, set_pot_x, set_pot_y, called_by, called, after_by, after}
@@ -168,7 +168,7 @@ write_cycle c address value = refl
 pub write_oscillator
     : (P : Oscillator → Type 0) (v : Voice) (r value cycle : ℕ)
     → ((frequency width : ℕ) → P (tuned v.oscillator frequency width))
-    → (eqb r 4 ≡ true → P (the-written-Oscillator v.oscillator value cycle))
+    → (eqb r 4 ≡ true → P (oscillator_written v.oscillator value cycle))
     → P v.oscillator
     → P (written_voice v r value cycle).oscillator
 unfolding written_voice written_oscillator
@@ -189,8 +189,8 @@ face_of o e = record { code = o.tone.last_sample; osc = o.tone.readback; level =
 abbrev pub face : Voice → Face
 face v = face_of v.oscillator v.envelope
 
-control_face : (o : Oscillator) (value cycle : ℕ) (e : Envelope) → face_of (the-written-Oscillator o value cycle) e ≡ face_of o e
-unfolding the-written-Oscillator tested_tone reset_phase
+control_face : (o : Oscillator) (value cycle : ℕ) (e : Envelope) → face_of (oscillator_written o value cycle) e ≡ face_of o e
+unfolding oscillator_written tested_tone reset_phase
 control_face o value cycle e = go o.control.test_enabled (written_control o.control value).test_enabled
   where
     go : (old new : Bool) → face_of (record { control = o.control; tone = tested_tone o.tone old new; noise = o.noise; bus = o.bus }) e ≡ face_of o e

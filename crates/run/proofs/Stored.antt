@@ -3,6 +3,7 @@
 -- nothing.
 use Rattle.std.proofs.Common.{◌≡◌, ℕ, zero, suc, ◌+◌, ◌*◌, ◌/◌, ◌%◌, ◌<◌, ◌≤◌, Bool, true, false, cond, ltb, List, [], ◌∷◌, ◌++◌, length, get_or, take, drop, sym, refl, ap, ◌∙◌, subst, ap₂, append_assoc, le_refl, add-one, arith, drop-drop, take_at, drop_at, le-ltb, lt-ltb}
 use lib.ListN.{get_or-append}
+use borrow.Rule.Slice.PartMut.{put_mid}
 use lib.Seq.{sets, length-sets, sets-eq}
 use Rattle.laws.specs.Build.{build}
 use Rattle.laws.proofs.Build.{length_build, build_at, build_same}
@@ -14,6 +15,12 @@ use Rattle.sid.specs.declared.Mos6581.{Mos6581}
 use Rattle.sid.proofs.Ticks.{ticks_alike}
 use Rattle.run.specs.Render.{six, heard_at, clocks_in, rendered_by}
 use Rattle.run.specs.Loop.{stored_by}
+
+-- a part copied over is a store of each of its entries
+pub put_sets : (l vs : List ℕ) (m k : ℕ) → k ≡ length vs → m + length vs ≤ length l → put_mid m k l vs ≡ sets l m vs
+put_sets l vs m k e fits =
+    ap (λ (x : List ℕ). take m l ++ (vs ++ x)) (drop-drop k m l ∙ ap (λ (j : ℕ). drop (m + j) l) e)
+    ∙ sym (sets-eq vs l m fits ∙ append_assoc (take m l) vs (drop (m + length vs) l))
 
 module _ (w : Ways) (c : Mos6581) where
   -- a turn of the loop: it stores a clock where there is room for one

@@ -3,9 +3,9 @@
 // something is due.
 #![tactic(auto)]
 
-ghost use Rattle.std.specs.Prelude.{◌≡◌, ◌+◌, ◌≤◌, [], ◌∷◌, length};
+ghost use Rattle.std.specs.Prelude.{◌≡◌, ◌+◌, ◌≤◌, length};
 ghost use Rattle.std.proofs.lemmas.List.Edits.{sets};
-ghost use Rattle.tables.specs.Tables.{told};
+ghost use Rattle.refusals.specs.Refusals.{tells};
 ghost use Rattle.sid.specs.Sid.{ticks, ticks_by};
 ghost use Rattle.pack.specs.Pack.{refusal, over};
 ghost use Rattle.run.specs.Answers.{pack_ran};
@@ -15,16 +15,15 @@ ghost use Rattle.run.specs.Loop.{stored_by};
 use floating::FloatingBus;
 use noise::NoiseGenerator;
 use oscillator::Oscillator;
-use refusals::{Refusal, Refused};
+use refusals::Refused;
 use sid::{Mos6581, Voice};
-use tables::Filled;
 use wiring::Wiring;
 
 // What a run, or a rendering, over a pack gives: where it is refused, the chip as it was.
 #[derive(Clone, Copy)]
 pub struct PackRan {
     pub chip: Mos6581,
-    pub answer: Filled,
+    pub answer: Result<(), Refused>,
 }
 
 pub fn run(chip: Mos6581, n: u64) -> Mos6581
@@ -35,20 +34,17 @@ pub fn run(chip: Mos6581, n: u64) -> Mos6581
 }
 
 pub fn run_packed(chip: Mos6581, n: u64, pack: &[u16]) -> PackRan
-    ensures { (result.chip ≡ pack_ran pack.now n chip) × (told result.answer ≡ refusal (length pack.now)) }
+    ensures { (result.chip ≡ pack_ran pack.now n chip) × (tells result.answer ≡ refusal (length pack.now)) }
 {
-    if pack.len() != pack::LENGTH {
-        return PackRan {
+    match pack::check(pack) {
+        Ok(()) => PackRan {
+            chip: run_over(chip, n, pack),
+            answer: Ok(()),
+        },
+        Err(refused) => PackRan {
             chip,
-            answer: Filled::Refused(Refused {
-                why: Refusal::PackLength,
-                place: 0,
-            }),
-        };
-    }
-    PackRan {
-        chip: run_over(chip, n, pack),
-        answer: Filled::Done,
+            answer: Err(refused),
+        },
     }
 }
 
@@ -62,20 +58,17 @@ pub fn run_over(chip: Mos6581, n: u64, pack: &[u16]) -> Mos6581
 
 // As many clocks as `out` has room for, six numbers each: the three codes, then the three levels.
 pub fn render(chip: Mos6581, pack: &[u16], out: &mut [u16]) -> PackRan
-    ensures { (result.chip ≡ pack_ran pack.now (clocks_in out.old) chip) × (told result.answer ≡ refusal (length pack.now)) × (out.new ≡ pack_rendered pack.now chip out.old) }
+    ensures { (result.chip ≡ pack_ran pack.now (clocks_in out.old) chip) × (tells result.answer ≡ refusal (length pack.now)) × (out.new ≡ pack_rendered pack.now chip out.old) }
 {
-    if pack.len() != pack::LENGTH {
-        return PackRan {
+    match pack::check(pack) {
+        Ok(()) => PackRan {
+            chip: render_over(chip, pack, out),
+            answer: Ok(()),
+        },
+        Err(refused) => PackRan {
             chip,
-            answer: Filled::Refused(Refused {
-                why: Refusal::PackLength,
-                place: 0,
-            }),
-        };
-    }
-    PackRan {
-        chip: render_over(chip, pack, out),
-        answer: Filled::Done,
+            answer: Err(refused),
+        },
     }
 }
 
@@ -87,28 +80,15 @@ pub fn render_over(chip: Mos6581, pack: &[u16], out: &mut [u16]) -> Mos6581
     run_into(chip, n, pack, out)
 }
 
-fn store(
-    out: &mut [u16],
-    at: usize,
-    code_0: u16,
-    code_1: u16,
-    code_2: u16,
-    level_0: u8,
-    level_1: u8,
-    level_2: u8,
-)
+fn store(out: &mut [u16], at: usize, heard: [u16; 6])
     requires { at + 6 ≤ length out.old }
-    ensures { out.new ≡ sets out.old at (code_0 ∷ code_1 ∷ code_2 ∷ level_0 ∷ level_1 ∷ level_2 ∷ []) }
+    ensures { out.new ≡ sets out.old at heard }
 {
-    out[at] = code_0;
-    out[at + 1] = code_1;
-    out[at + 2] = code_2;
-    out[at + 3] = level_0 as u16;
-    out[at + 4] = level_1 as u16;
-    out[at + 5] = level_2 as u16;
+    out[at..at + 6].copy_from_slice(&heard);
 }
 
 // n clocks, of which the first are stored, as many as `out` has room for.
+// Three voices written out, each part in a local: a loop or a call over them was slower (docs/PERFORMANCE.md).
 fn run_into(chip: Mos6581, n: u64, pack: &[u16], out: &mut [u16]) -> Mos6581
     ensures { (result ≡ ticks_by (over pack.now) n chip) × (out.new ≡ stored_by (over pack.now) n chip out.old) }
 {
@@ -146,8 +126,7 @@ fn run_into(chip: Mos6581, n: u64, pack: &[u16], out: &mut [u16]) -> Mos6581
     let mut quiet_1 = envelope_1.quiescent();
     let mut quiet_2 = envelope_2.quiescent();
     let room = (out.len() / 6) as u64;
-    let mut i: u64 = 0;
-    while i < n {
+    for i in 0..n {
         // the bus
         if data_bus.value != 0 {
             data_bus = bus::lent_clock(data_bus);
@@ -284,18 +263,16 @@ fn run_into(chip: Mos6581, n: u64, pack: &[u16], out: &mut [u16]) -> Mos6581
         }
         // what is heard
         if i < room {
-            store(
-                out,
-                (i as usize) * 6,
+            let heard = [
                 tone_0.last_sample,
                 tone_1.last_sample,
                 tone_2.last_sample,
-                envelope_0.volume,
-                envelope_1.volume,
-                envelope_2.volume,
-            );
+                envelope_0.volume as u16,
+                envelope_1.volume as u16,
+                envelope_2.volume as u16,
+            ];
+            store(out, (i as usize) * 6, heard);
         }
-        i += 1;
     }
     Mos6581 {
         voice_0: Voice {

@@ -4,7 +4,7 @@
 
 ghost use Rattle.std.specs.Prelude.{◌≡◌, length};
 ghost use Rattle.bus.specs.Bus.{lost};
-ghost use Rattle.tables.specs.Tables.{told};
+ghost use Rattle.refusals.specs.Refusals.{tells};
 ghost use Rattle.sid.specs.Sid.{ticked, ticked_by};
 ghost use Rattle.pack.specs.Pack.{refusal, over};
 ghost use Rattle.tick.specs.Outputs.{outputs, pack_ticked};
@@ -12,11 +12,11 @@ ghost use Rattle.tick.specs.Outputs.{outputs, pack_ticked};
 use floating::FloatingBus;
 use noise::NoiseGenerator;
 use oscillator::Oscillator;
-use refusals::{Refusal, Refused};
+use refusals::Refused;
 use sid::{Mos6581, Voice};
-use tables::Filled;
 
 // What a tick gives: the chip after it, the codes and the levels of its voices, and the bits that its data bus lost.
+// Six numbers by their names: a caller takes one or another of them, and nothing takes the six apart from the chip.
 #[derive(Clone, Copy)]
 pub struct Ticked {
     pub chip: Mos6581,
@@ -33,7 +33,7 @@ pub struct Ticked {
 #[derive(Clone, Copy)]
 pub struct PackTicked {
     pub ticked: Ticked,
-    pub answer: Filled,
+    pub answer: Result<(), Refused>,
 }
 
 pub fn tick(chip: Mos6581) -> Ticked
@@ -44,34 +44,38 @@ pub fn tick(chip: Mos6581) -> Ticked
 }
 
 pub fn tick_packed(chip: Mos6581, pack: &[u16]) -> PackTicked
-    ensures { (result.ticked ≡ pack_ticked pack.now chip) × (told result.answer ≡ refusal (length pack.now)) }
+    ensures { (result.ticked ≡ pack_ticked pack.now chip) × (tells result.answer ≡ refusal (length pack.now)) }
 {
-    if pack.len() != pack::LENGTH {
-        let ticked = Ticked {
-            chip,
-            code_0: chip.voice_0.oscillator.tone.last_sample,
-            code_1: chip.voice_1.oscillator.tone.last_sample,
-            code_2: chip.voice_2.oscillator.tone.last_sample,
-            level_0: chip.voice_0.envelope.volume,
-            level_1: chip.voice_1.envelope.volume,
-            level_2: chip.voice_2.envelope.volume,
-            lost: 0,
-        };
-        return PackTicked {
-            ticked,
-            answer: Filled::Refused(Refused {
-                why: Refusal::PackLength,
-                place: 0,
-            }),
-        };
+    match pack::check(pack) {
+        Ok(()) => PackTicked {
+            ticked: tick_over(chip, pack),
+            answer: Ok(()),
+        },
+        Err(refused) => PackTicked {
+            ticked: heard(chip, 0),
+            answer: Err(refused),
+        },
     }
-    PackTicked {
-        ticked: tick_over(chip, pack),
-        answer: Filled::Done,
+}
+
+#[tactic(auto, unfolding(crate::specs::Outputs::outputs))]
+fn heard(chip: Mos6581, lost: u8) -> Ticked
+    ensures { result ≡ outputs lost chip }
+{
+    Ticked {
+        chip,
+        code_0: chip.voice_0.oscillator.tone.last_sample,
+        code_1: chip.voice_1.oscillator.tone.last_sample,
+        code_2: chip.voice_2.oscillator.tone.last_sample,
+        level_0: chip.voice_0.envelope.volume,
+        level_1: chip.voice_1.envelope.volume,
+        level_2: chip.voice_2.envelope.volume,
+        lost,
     }
 }
 
 // Over a pack of any length: where it lacks the entry of a code, the code is settled afresh.
+// Three voices written out, each part in a local: a loop or a call over them was slower (docs/PERFORMANCE.md).
 pub fn tick_over(chip: Mos6581, pack: &[u16]) -> Ticked
     ensures { result ≡ outputs (lost chip.data_bus) (ticked_by (over pack.now) chip) }
 {
@@ -104,7 +108,7 @@ pub fn tick_over(chip: Mos6581, pack: &[u16]) -> Ticked
     let mut lost = data_bus.value;
     if data_bus.value != 0 {
         data_bus = bus::lent_clock(data_bus);
-        lost = lost - data_bus.value;
+        lost -= data_bus.value;
     }
     // the cycle
     let cycle = std::num::wrapping_add_u64(chip.cycle, 1);

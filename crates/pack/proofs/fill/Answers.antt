@@ -3,12 +3,14 @@ use mathlib.Core.Path.{sym, ◌∙◌}
 use Prim.Native.Nat.{◌+◌, ◌-◌, ◌*◌}
 use native.Mathlib.Omega.{arith}
 use Rattle.laws.proofs.Build.{built_none, built_all}
-use Rattle.pack.specs.Pack.{pack_length, settled_entry, filled}
+use Rattle.std.proofs.Common.{rules}
+use Rattle.pack.specs.Pack.{pack_length, settled_entry, filled, refusal, pack_after}
 use Rattle.pack.proofs.Filling.{block_length, unrefused, block_filled, block_more, wrong_length, right_length}
 use Rattle.pack.proofs.fill.Goals as goal
 
-pub returns-then-pack-ne-LENGTH : goal.returns-then-pack-ne-LENGTH
-returns-then-pack-ne-LENGTH c = rw c.at.ensures (wrong_length _ c.if-pack-ne-LENGTH.true)
+pub returns-in_err-check : goal.returns-in_err-check
+unfolding refusal pack_after
+returns-in_err-check c = search (rules, wrong_length)
 
 pub loop-block-init : goal.loop-block-init
 loop-block-init c = built_none settled_entry pack_length c.args.pack.now (omega arith)

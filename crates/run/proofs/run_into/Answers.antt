@@ -158,22 +158,22 @@ sounded_2 c =
 
 pub loop-i-init : goal.loop-i-init
 unfolding times stored_by
-loop-i-init c = (omega arith, omega (arith, c.ranges.n), refl, c.quiescent-quiet_0.ensures, c.quiescent-quiet_1.ensures, c.quiescent-quiet_2.ensures, refl)
+loop-i-init c = record {
+  ticked = refl;
+  rests_0 = c.quiescent-quiet_0.ensures;
+  rests_1 = c.quiescent-quiet_1.ensures;
+  rests_2 = c.quiescent-quiet_2.ensures;
+  stored = refl;
+}
 
 pub store-requires : goal.store-requires
 store-requires c =
     let l = c.loop-i in
-    let kept = ap length l.invariant.6 ∙ stored_length (over c.args.pack.now) c.args.chip l.i c.args.out.now in
+    let kept = ap length l.invariant.stored ∙ stored_length (over c.args.pack.now) c.args.chip l.i c.args.out.now in
     omega (arith, c.if-i-room.true, kept)
 
 pub overflow_mul-i : goal.overflow_mul-i
 overflow_mul-i c = record { fits = omega (arith, c.if-i-room.true) }
-
-pub overflow_add-i : goal.overflow_add-i
-overflow_add-i c = omega (arith, c.loop-i-test.true, c.loop-i.invariant.1)
-
-pub loop-i-smaller : goal.loop-i-smaller
-loop-i-smaller c = omega (arith, c.loop-i-test.true)
 
 pub loop-i-preserved : goal.loop-i-preserved
 loop-i-preserved c =
@@ -204,7 +204,7 @@ loop-i-preserved c =
       | then-step_due w ↦ taken w.if-step_due.true (same_generator w.noise_0-is w.captured_0-is w.charge_0-is ∙ w.step_once_lent-noise_0.ensures)
       | else-step_due w ↦ left w.if-step_due.false (same_generator w.noise_0-is w.captured_0-is w.charge_0-is)
     ])
-    l.invariant.3
+    l.invariant.rests_0
     (elim c.if-quiet_0.branch [
       | then-quiet_0 w ↦ taken w.if-quiet_0.true (w.envelope_0-is ∙ w.clock_quiet-envelope_0.ensures)
       | else-quiet_0 w ↦ left w.if-quiet_0.false (w.envelope_0-is ∙ w.clock-envelope_0.ensures)
@@ -221,7 +221,7 @@ loop-i-preserved c =
       | then-step_due-2 w ↦ taken w.if-step_due-2.true (same_generator w.noise_1-is w.captured_1-is w.charge_1-is ∙ w.step_once_lent-noise_1.ensures)
       | else-step_due-2 w ↦ left w.if-step_due-2.false (same_generator w.noise_1-is w.captured_1-is w.charge_1-is)
     ])
-    l.invariant.4
+    l.invariant.rests_1
     (elim c.if-quiet_1.branch [
       | then-quiet_1 w ↦ taken w.if-quiet_1.true (w.envelope_1-is ∙ w.clock_quiet-envelope_1.ensures)
       | else-quiet_1 w ↦ left w.if-quiet_1.false (w.envelope_1-is ∙ w.clock-envelope_1.ensures)
@@ -238,7 +238,7 @@ loop-i-preserved c =
       | then-step_due-3 w ↦ taken w.if-step_due-3.true (same_generator w.noise_2-is w.captured_2-is w.charge_2-is ∙ w.step_once_lent-noise_2.ensures)
       | else-step_due-3 w ↦ left w.if-step_due-3.false (same_generator w.noise_2-is w.captured_2-is w.charge_2-is)
     ])
-    l.invariant.5
+    l.invariant.rests_2
     (elim c.if-quiet_2.branch [
       | then-quiet_2 w ↦ taken w.if-quiet_2.true (w.envelope_2-is ∙ w.clock_quiet-envelope_2.ensures)
       | else-quiet_2 w ↦ left w.if-quiet_2.false (w.envelope_2-is ∙ w.clock-envelope_2.ensures)
@@ -261,30 +261,28 @@ loop-i-preserved c =
     turned (over pack) start l.i
     (round (over pack) l.cycle from_0 from_1 from_2 bus c.wrapping_add_u64-cycle.ensures.value
     voice_0 voice_1 voice_2 c.clocked-tone_2.ensures sync)
-    l.invariant.2 in (
-      omega (arith, c.loop-i-test.true),
-      l.invariant.1,
-      ticked,
-      elim c.if-quiet_0.branch [
-        | then-quiet_0 w ↦ w.quiet_0-is ∙ rested _ l.invariant.3 w.if-quiet_0.true w.clock_quiet-envelope_0.ensures w.envelope_0-is
+    l.invariant.ticked in record {
+      ticked = ticked;
+      rests_0 = elim c.if-quiet_0.branch [
+        | then-quiet_0 w ↦ w.quiet_0-is ∙ rested _ l.invariant.rests_0 w.if-quiet_0.true w.clock_quiet-envelope_0.ensures w.envelope_0-is
         | else-quiet_0 w ↦ w.quiet_0-is ∙ (w.quiescent-quiet_0-else-quiet_0.ensures ∙ ap quiescent (sym w.envelope_0-is))
-      ],
-      elim c.if-quiet_1.branch [
-        | then-quiet_1 w ↦ w.quiet_1-is ∙ rested _ l.invariant.4 w.if-quiet_1.true w.clock_quiet-envelope_1.ensures w.envelope_1-is
+      ];
+      rests_1 = elim c.if-quiet_1.branch [
+        | then-quiet_1 w ↦ w.quiet_1-is ∙ rested _ l.invariant.rests_1 w.if-quiet_1.true w.clock_quiet-envelope_1.ensures w.envelope_1-is
         | else-quiet_1 w ↦ w.quiet_1-is ∙ (w.quiescent-quiet_1-else-quiet_1.ensures ∙ ap quiescent (sym w.envelope_1-is))
-      ],
-      elim c.if-quiet_2.branch [
-        | then-quiet_2 w ↦ w.quiet_2-is ∙ rested _ l.invariant.5 w.if-quiet_2.true w.clock_quiet-envelope_2.ensures w.envelope_2-is
+      ];
+      rests_2 = elim c.if-quiet_2.branch [
+        | then-quiet_2 w ↦ w.quiet_2-is ∙ rested _ l.invariant.rests_2 w.if-quiet_2.true w.clock_quiet-envelope_2.ensures w.envelope_2-is
         | else-quiet_2 w ↦ w.quiet_2-is ∙ (w.quiescent-quiet_2-else-quiet_2.ensures ∙ ap quiescent (sym w.envelope_2-is))
-      ],
-      elim c.if-i-room.branch [
-        | then-i-room w ↦ stored_more (over pack) start out l.invariant.6 ticked w.if-i-room.true (w.out-is ∙ w.store.ensures)
-        | else-i-room w ↦ stored_full (over pack) start out l.invariant.6 w.if-i-room.false w.out-is
-      ],
-    )
+      ];
+      stored = elim c.if-i-room.branch [
+        | then-i-room w ↦ stored_more (over pack) start out l.invariant.stored ticked w.if-i-room.true (w.out-is ∙ w.store.ensures)
+        | else-i-room w ↦ stored_full (over pack) start out l.invariant.stored w.if-i-room.false w.out-is
+      ];
+    }
 
 pub returns : goal.returns
 returns c =
     let ways = over c.args.pack.now in
     let inv = c.loop-i.invariant in
-    (ran ways c.args.chip inv.0 c.loop-i-test.false inv.2, stored_all ways c.args.chip c.args.out.now inv.0 c.loop-i-test.false inv.6)
+    (ran ways c.args.chip (omega arith) c.loop-i-test.false inv.ticked, stored_all ways c.args.chip c.args.out.now (omega arith) c.loop-i-test.false inv.stored)

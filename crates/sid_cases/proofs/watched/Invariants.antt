@@ -1,5 +1,0 @@
--- `watched` comes to an end: each turn ticks the chip, reads it, and takes one off the clocks that are left.
-use Rattle.sid_cases.proofs.watched.Given as goal
-
-abbrev pub decreases-loop-left : goal.decreases-loop-left
-decreases-loop-left l = l.left
