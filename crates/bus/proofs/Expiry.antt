@@ -2,12 +2,12 @@
 -- Assumes nothing.
 use Prim.Native.Nat.{ℕ, ◌-◌, ◌/◌, ◌%◌, ◌^◌, ◌≤◌, ◌<◌, min}
 use native.Mathlib.Omega.{arith}
-use mathlib.Core.Path.{◌≡◌, refl, sym}
+use mathlib.Core.Path.{◌≡◌, refl}
 use mathlib.Core.List.{List, [], ◌∷◌}
-use mathlib.Core.Bool.{Bool, true, false, cond}
+use mathlib.Core.Bool.{cond}
 use lib.ListN.{get_or, drop}
 use lib.Dec.{ltb, eqb}
-use borrow.Author.Tests.{lt-ltb, le-ltb, eq-eqb, ne_eqb, eqb-false}
+use Rattle.std.proofs.lemmas.Bool.Decides.{nat_tests}
 use Rattle.bus.specs.Bus.{holds, kept, no_expiry, next_expiry_for}
 use Rattle.bus.proofs.Kept.{kept_low, kept_half, bits_half, holds_drop}
 
@@ -20,15 +20,7 @@ next_le (h ∷ hs) v n = omega (arith, next_le hs (v / 2) n)
 
 -- one bit x, whose hold is the next expiry if it is set
 bit_safe : (h x n : ℕ) → x ≤ 1 → n < cond (eqb x 1) h no_expiry → cond (ltb n h) x 0 ≡ x
-bit_safe h x n o = go (eqb x 1) refl
-  where
-    clear : (b : Bool) → x ≡ 0 → cond b x 0 ≡ x
-    clear true e = refl
-    clear false e = sym e
-
-    go : (b : Bool) → eqb x 1 ≡ b → n < cond b h no_expiry → cond (ltb n h) x 0 ≡ x
-    go true e l = simp (lt-ltb n h l)
-    go false e l = clear (ltb n h) (omega (arith, eqb-false x 1 e))
+bit_safe h x n o l = grind (arith, nat_tests)
 
 -- one bit that was kept at m
 bit_kept_safe
@@ -36,15 +28,7 @@ bit_kept_safe
     → x ≤ 1
     → n < cond (eqb (cond (ltb m h) x 0) 1) (cond (ltb m h) h no_expiry) no_expiry
     → cond (ltb n h) (cond (ltb m h) x 0) 0 ≡ cond (ltb m h) x 0
-bit_kept_safe h x m n o = go (ltb m h)
-  where
-    zeros : (b : Bool) → ◌≡◌ {A = ℕ} (cond b 0 0) 0
-    zeros true = refl
-    zeros false = refl
-
-    go : (b : Bool) → n < cond (eqb (cond b x 0) 1) (cond b h no_expiry) no_expiry → cond (ltb n h) (cond b x 0) 0 ≡ cond b x 0
-    go true l = bit_safe h x n o l
-    go false l = zeros (ltb n h)
+bit_kept_safe h x m n o l = grind (arith, nat_tests)
 
 pub kept_safe : (hs : List ℕ) (v m n : ℕ) → n < next_expiry_for hs (kept hs v m) m → kept hs (kept hs v m) n ≡ kept hs v m
 unfolding kept next_expiry_for
@@ -56,33 +40,10 @@ kept_safe (h ∷ hs) v m n l =
 -- ---- a turn of a loop over the bits, the highest first: the bit below b
 
 module _ (v n b : ℕ) (h : 0 < b) (l : b ≤ 8) where
-  next_turn
+  pub next_turn
       : next_expiry_for (drop (b - 1) holds) (v / 2 ^ (b - 1)) n
       ≡ min (cond (eqb (v / 2 ^ (b - 1) % 2) 1) (cond (ltb n (get_or holds (b - 1) 0)) (get_or holds (b - 1) 0) no_expiry) no_expiry) (next_expiry_for (drop b holds) (v / 2 ^ b) n)
   unfolding next_expiry_for
   next_turn = rw (holds_drop b h l, ← bits_half b h v)
 
-  pub expires
-      : v / 2 ^ (b - 1) % 2 ≡ 1
-      → n < get_or holds (b - 1) 0
-      → min (next_expiry_for (drop b holds) (v / 2 ^ b) n) (get_or holds (b - 1) 0) ≡ next_expiry_for (drop (b - 1) holds) (v / 2 ^ (b - 1)) n
-  expires s k =
-      let t = rw (eq-eqb (v / 2 ^ (b - 1) % 2) 1 s, lt-ltb n (get_or holds (b - 1) 0) k) at next_turn in
-      omega arith
-
-  pub expired
-      : v / 2 ^ (b - 1) % 2 ≡ 1
-      → get_or holds (b - 1) 0 ≤ n
-      → next_expiry_for (drop b holds) (v / 2 ^ b) n ≡ next_expiry_for (drop (b - 1) holds) (v / 2 ^ (b - 1)) n
-  expired s k =
-      let t = rw (eq-eqb (v / 2 ^ (b - 1) % 2) 1 s, le-ltb n (get_or holds (b - 1) 0) k) at next_turn in
-      omega (arith, next_le (drop b holds) (v / 2 ^ b) n)
-
-  pub unset
-      : (v / 2 ^ (b - 1) % 2 ≡ 1 → ⊥)
-      → next_expiry_for (drop b holds) (v / 2 ^ b) n ≡ next_expiry_for (drop (b - 1) holds) (v / 2 ^ (b - 1)) n
-  unset s =
-      let t = rw (ne_eqb (v / 2 ^ (b - 1) % 2) 1 s) at next_turn in
-      omega (arith, next_le (drop b holds) (v / 2 ^ b) n)
-
-pub ruleset next_turns = (expires, expired, unset)
+pub ruleset next_turns = (next_turn, next_le, nat_tests)

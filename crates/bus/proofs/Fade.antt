@@ -7,6 +7,7 @@ use mathlib.Core.Path.{◌≡◌, refl, ap, sym, ◌∙◌}
 use mathlib.Core.Bool.{Bool, true, false, cond}
 use lib.Dec.{ltb, eqb}
 use lib.ListN.{get_or}
+use Rattle.std.proofs.lemmas.Bool.Decides.{nat_tests}
 use borrow.Author.Tests.{ltb-true, ltb-false, eqb-true, eqb-false}
 use Rattle.laws.specs.Times.{times}
 use Rattle.bus.specs.declared.InternalDataBus.{InternalDataBus}
@@ -40,11 +41,7 @@ module _ (v n : ℕ) (b : InternalDataBus) (f : Fading v n b) where
   module _ (k : b.value ≡ 0 → ⊥) where
     -- a byte that is not gone is younger than the longest hold, so its age is far from saturating
     young : n < 43008
-    young = go (ltb n 43008) refl
-      where
-        go : (t : Bool) → ltb n 43008 ≡ t → n < 43008
-        go true e = ltb-true n 43008 e
-        go false e = absurd (k (f.byte ∙ kept_none v n (ltb-false n 43008 e)))
+    young = grind (arith, nat_tests, f.byte, kept_none v n)
 
     next_age : n + 1 ≡ min (b.age + 1) (2 ^ 32 - 1)
     next_age = omega (arith, young, f.old k)

@@ -5,22 +5,18 @@ use native.Mathlib.Omega.{arith}
 use native.Mathlib.Nat.{pow-suc, div-le_self, pow-succ', div-one, div-div-eq-div-mul, le_of_suc-le-suc}
 use mathlib.Core.Path.{◌≡◌, refl}
 use mathlib.Core.List.{List, [], ◌∷◌}
-use mathlib.Core.Bool.{Bool, true, false, cond}
+use mathlib.Core.Bool.{Bool, cond}
 use lib.ListN.{length, get_or, drop}
 use lib.Seq.{drop-cons}
 use lib.Dec.{ltb, leb, leb→le}
-use borrow.Author.Tests.{lt-ltb, le-ltb, ltb-true}
-use Rattle.laws.proofs.Cond.{either}
+use Rattle.std.proofs.lemmas.Bool.Decides.{nat_tests}
 use Rattle.laws.proofs.Table.{at}
 use Rattle.bus.specs.Bus.{holds, kept}
-
-pub cond_le : (b : Bool) (x : ℕ) → cond b x 0 ≤ x
-cond_le b x = either (λ (m : ℕ). m ≤ x) b x 0 (omega arith) (omega arith)
 
 pub kept_le : (hs : List ℕ) (v n : ℕ) → kept hs v n ≤ v
 unfolding kept
 kept_le [] v n = omega arith
-kept_le (h ∷ hs) v n = omega (arith, kept_le hs (v / 2) n, cond_le (ltb n h) (v % 2))
+kept_le (h ∷ hs) v n = grind (arith, nat_tests, kept_le hs (v / 2) n)
 
 -- every hold exceeds 0
 positive : ℕ → ℕ → Bool
@@ -37,12 +33,11 @@ kept_all v h = omega arith
 -- the longest hold is 43008
 pub kept_none : (v n : ℕ) → 43008 ≤ n → kept holds v n ≡ 0
 unfolding kept holds
-kept_none v n h =
-    simp (le-ltb n 12 (omega arith), le-ltb n 26624 (omega arith), le-ltb n 34816 (omega arith), le-ltb n 38912 (omega arith), le-ltb n 7680 (omega arith), le-ltb n 11264 (omega arith), le-ltb n 15360 (omega arith), le-ltb n 43008 h)
+kept_none v n h = grind (arith, nat_tests)
 
 -- the lowest bit of what is kept, and the bits above it
 low_le : (h v n : ℕ) → cond (ltb n h) (v % 2) 0 ≤ 1
-low_le h v n = omega (arith, cond_le (ltb n h) (v % 2))
+low_le h v n = grind (arith, nat_tests)
 
 module _ (h : ℕ) (hs : List ℕ) (v n : ℕ) where
   pub kept_low : kept (h ∷ hs) v n % 2 ≡ cond (ltb n h) (v % 2) 0
@@ -55,11 +50,7 @@ module _ (h : ℕ) (hs : List ℕ) (v n : ℕ) where
 
 -- one bit, kept at m and then at a later n
 bit_later : (h x m n : ℕ) → m ≤ n → cond (ltb n h) (cond (ltb m h) x 0) 0 ≡ cond (ltb n h) x 0
-bit_later h x m n l = go (ltb n h) refl
-  where
-    go : (b : Bool) → ltb n h ≡ b → cond b (cond (ltb m h) x 0) 0 ≡ cond b x 0
-    go true e = let t : n < h = ltb-true n h e in simp (lt-ltb m h (omega arith))
-    go false e = refl
+bit_later h x m n l = grind (arith, nat_tests)
 
 -- what is kept at m and then at a later n is what is kept at n
 pub kept_later : (hs : List ℕ) (v m n : ℕ) → m ≤ n → kept hs (kept hs v m) n ≡ kept hs v n
@@ -88,17 +79,11 @@ module _ (b : ℕ) (h : 0 < b) where
   holds_drop l = let e : suc (b - 1) ≡ b = omega arith in rw e at (drop-cons holds (b - 1) 0 (omega arith))
 
   module _ (v n : ℕ) (l : b ≤ 8) where
-    kept_turn
+    pub kept_turn
         : kept (drop (b - 1) holds) (v / 2 ^ (b - 1)) n
         ≡ cond (ltb n (get_or holds (b - 1) 0)) (v / 2 ^ (b - 1) % 2) 0 + 2 * kept (drop b holds) (v / 2 ^ b) n
     unfolding kept
     kept_turn = rw (holds_drop l, ← bits_half v)
-
-    pub stays : n < get_or holds (b - 1) 0 → kept (drop b holds) (v / 2 ^ b) n * 2 + v / 2 ^ (b - 1) % 2 ≡ kept (drop (b - 1) holds) (v / 2 ^ (b - 1)) n
-    stays k = let t = rw (lt-ltb n (get_or holds (b - 1) 0) k) at kept_turn in omega arith
-
-    pub goes : get_or holds (b - 1) 0 ≤ n → kept (drop b holds) (v / 2 ^ b) n * 2 ≡ kept (drop (b - 1) holds) (v / 2 ^ (b - 1)) n
-    goes k = let t = rw (le-ltb n (get_or holds (b - 1) 0) k) at kept_turn in omega arith
 
     pub before_le : kept (drop b holds) (v / 2 ^ b) n * 2 ≤ v
     before_le = omega (arith, kept_le (drop b holds) (v / 2 ^ b) n, bits_half v, div-le_self v (2 ^ (b - 1)))
@@ -106,4 +91,4 @@ module _ (b : ℕ) (h : 0 < b) where
     pub after_le : kept (drop (b - 1) holds) (v / 2 ^ (b - 1)) n ≤ v
     after_le = omega (arith, kept_le (drop (b - 1) holds) (v / 2 ^ (b - 1)) n, div-le_self v (2 ^ (b - 1)))
 
-pub ruleset kept_turns = (stays, goes, before_le, after_le)
+pub ruleset kept_turns = (kept_turn, before_le, after_le, nat_tests)

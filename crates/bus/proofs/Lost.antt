@@ -10,28 +10,25 @@ use mathlib.Core.List.{List, [], ◌∷◌}
 use mathlib.Core.Bool.{Bool, true, false, cond}
 use lib.Dec.{ltb, eqb}
 use lib.ListN.{length, get_or}
-use borrow.Author.Tests.{lt-ltb, le-ltb, eq-eqb, ltb-true, ltb-false, eqb-true, eqb-false}
+use Rattle.std.proofs.lemmas.Bool.Decides.{nat_tests}
+use borrow.Author.Tests.{eqb-true, eqb-false}
 use Rattle.laws.specs.Times.{times}
 use Rattle.bus.specs.declared.InternalDataBus.{InternalDataBus}
 use Rattle.bus.specs.Bus.{holds, kept, next_expiry_for, no_expiry, driven, aged, clocked, clocks, lost, to_expiry}
-use Rattle.bus.proofs.Kept.{cond_le, kept_le, kept_low, kept_half, kept_later, kept_bit}
+use Rattle.bus.proofs.Kept.{kept_le, kept_low, kept_half, kept_later, kept_bit}
 use Rattle.bus.proofs.Clock.{clocked_before}
 use Rattle.bus.proofs.Fade.{byte_fades}
 
 -- ---- what is not kept of a byte
 
-rest_of : (b : Bool) (x : ℕ) → cond b 0 x ≡ x - cond b x 0
-rest_of true x = omega arith
-rest_of false x = omega arith
-
 module _ (h : ℕ) (hs : List ℕ) (v n : ℕ) where
   gone_low : (v - kept (h ∷ hs) v n) % 2 ≡ cond (ltb n h) 0 (v % 2)
   unfolding kept
-  gone_low = omega (arith, rest_of (ltb n h) (v % 2), cond_le (ltb n h) (v % 2), kept_le hs (v / 2) n)
+  gone_low = grind (arith, nat_tests, kept_le hs (v / 2) n)
 
   gone_half : (v - kept (h ∷ hs) v n) / 2 ≡ v / 2 - kept hs (v / 2) n
   unfolding kept
-  gone_half = omega (arith, cond_le (ltb n h) (v % 2), kept_le hs (v / 2) n)
+  gone_half = grind (arith, nat_tests, kept_le hs (v / 2) n)
 
 -- bit k goes exactly if its hold does not exceed n
 gone_bit : (hs : List ℕ) (v n k : ℕ) → k < length hs → (v - kept hs v n) / 2 ^ k % 2 ≡ cond (ltb n (get_or hs k 0)) 0 (v / 2 ^ k % 2)
@@ -90,20 +87,12 @@ lost_bit b k l = go (clocked_left b)
     x : ℕ
     x = b.value / 2 ^ k % 2
 
-    one : (t : Bool) → eqb x 0 ≡ t → cond t x 0 ≡ 0
-    one true e = eqb-true x 0 e
-    one false e = refl
-
-    bit : (t : Bool) → cond t 0 x ≡ cond (eqb (cond t x 0) 0) x 0
-    bit true = sym (one (eqb x 0) refl)
-    bit false = refl
-
     none : 0 / 2 ^ k % 2 ≡ 0
     none = ap (λ (y : ℕ). y % 2) (zero-div (2 ^ k))
 
     go : {w : ℕ} → Left b.value w → (b.value - w) / 2 ^ k % 2 ≡ cond (eqb (w / 2 ^ k % 2) 0) x 0
-    go same = let z : b.value - b.value ≡ 0 = omega arith in rw z (none ∙ sym (one (eqb x 0) refl))
-    go (some n) = gone_bit holds b.value n k l ∙ (bit (ltb n (get_or holds k 0)) ∙ ap (λ (y : ℕ). cond (eqb y 0) x 0) (sym (kept_bit holds b.value n k l)))
+    go same = let z : b.value - b.value ≡ 0 = omega arith in rw z (grind (arith, nat_tests, none))
+    go (some n) = grind (arith, nat_tests, gone_bit holds b.value n k l, kept_bit holds b.value n k l)
 
 -- ---- before the next expiry no bit goes
 
@@ -143,13 +132,7 @@ module _ (b : InternalDataBus) where
 -- ---- after a drive
 
 on_hold : (h n x : ℕ) → cond (ltb (n + 1) h) 0 (cond (ltb n h) x 0) ≡ cond (eqb (n + 1) h) x 0
-on_hold h n x = go (ltb (n + 1) h) refl (eqb (n + 1) h) refl
-  where
-    go : (s : Bool) → ltb (n + 1) h ≡ s → (t : Bool) → eqb (n + 1) h ≡ t → cond s 0 (cond (ltb n h) x 0) ≡ cond t x 0
-    go true e true f = absurd (omega (arith, ltb-true (n + 1) h e, eqb-true (n + 1) h f))
-    go true e false f = refl
-    go false e true f = simp (lt-ltb n h (omega (arith, eqb-true (n + 1) h f)))
-    go false e false f = simp (le-ltb n h (omega (arith, ltb-false (n + 1) h e, eqb-false (n + 1) h f)))
+on_hold h n x = grind (arith, nat_tests)
 
 -- bit k of the byte that was driven is lost on the clock whose number is its hold, and on no other
 pub lost_at_hold
@@ -187,35 +170,19 @@ module _ (h : ℕ) (hs : List ℕ) (v n : ℕ) where
 kept_most : (hs : List ℕ) (v n : ℕ) → ones (length hs) (kept hs v n) ≤ ones (length hs) v
 unfolding ones
 kept_most [] v n = omega arith
-kept_most (h ∷ hs) v n = omega (arith, kept_count h hs v n, cond_le (ltb n h) (v % 2), kept_most hs (v / 2) n)
+kept_most (h ∷ hs) v n = grind (arith, nat_tests, kept_count h hs v n, kept_most hs (v / 2) n)
 
 kept_fewer : (hs : List ℕ) (v n : ℕ) → v < 2 ^ length hs → kept hs v n < v → ones (length hs) (kept hs v n) < ones (length hs) v
 unfolding ones kept
 kept_fewer [] v n h l = absurd (omega arith)
-kept_fewer (h ∷ hs) v n b l = go (ltb (kept hs (v / 2) n) (v / 2)) refl (kept_fewer hs (v / 2) n (omega (arith, rw pow-succ' at b)))
-  where
-    go
-        : (t : Bool)
-        → ltb (kept hs (v / 2) n) (v / 2) ≡ t
-        → (kept hs (v / 2) n < v / 2 → ones (length hs) (kept hs (v / 2) n) < ones (length hs) (v / 2))
-        → ones (suc (length hs)) (kept (h ∷ hs) v n) < ones (suc (length hs)) v
-    go true e less = omega (arith, kept_count h hs v n, cond_le (ltb n h) (v % 2), less (ltb-true (kept hs (v / 2) n) (v / 2) e))
-    go false e less =
-        let s : kept hs (v / 2) n ≡ v / 2 = omega (arith, kept_le hs (v / 2) n, ltb-false (kept hs (v / 2) n) (v / 2) e) in
-        omega (arith, kept_count h hs v n, ap (ones (length hs)) s)
+kept_fewer (h ∷ hs) v n b l =
+    grind (arith, nat_tests, kept_count h hs v n, kept_most hs (v / 2) n, kept_le hs (v / 2) n, kept_fewer hs (v / 2) n (omega (arith, rw pow-succ' at b)))
 
 -- a clock that loses bits leaves fewer
 pub lost_fewer : (b : InternalDataBus) → b.value < 256 → ones 8 (clocked b).value + cond (eqb (lost b) 0) 0 1 ≤ ones 8 b.value
 unfolding lost holds
 lost_fewer b h = go (clocked_left b)
   where
-    v : ℕ
-    v = b.value
-
-    go : {w : ℕ} → Left v w → ones 8 w + cond (eqb (v - w) 0) 0 1 ≤ ones 8 v
-    go same = simp (eq-eqb (v - v) 0 (omega arith)) (omega arith)
-    go (some n) = less (eqb (v - kept holds v n) 0) refl
-      where
-        less : (t : Bool) → eqb (v - kept holds v n) 0 ≡ t → ones 8 (kept holds v n) + cond t 0 1 ≤ ones 8 v
-        less true e = omega (arith, kept_most holds v n)
-        less false e = omega (arith, kept_fewer holds v n h (omega (arith, eqb-false (v - kept holds v n) 0 e)))
+    go : {w : ℕ} → Left b.value w → ones 8 w + cond (eqb (b.value - w) 0) 0 1 ≤ ones 8 b.value
+    go same = grind (arith, nat_tests)
+    go (some n) = grind (arith, nat_tests, kept_most holds b.value n, kept_fewer holds b.value n h)

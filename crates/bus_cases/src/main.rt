@@ -16,7 +16,8 @@ fn clock_times(bus: &mut InternalDataBus, n: u32) -> u8 {
     lost
 }
 
-// The byte that a call gave, 0 where it gives none.
+// The byte that a call gave, 0 where it gives none. A call's number is read here alone: an enum of the calls would only
+// be one match more.
 fn made(bus: &mut InternalDataBus, call: u8, operand: u32, after: InternalDataBus) -> u8 {
     let byte = (operand % 256) as u8;
     match call {

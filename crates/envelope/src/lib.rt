@@ -84,10 +84,10 @@ impl GateHistory {
     fn edge(self) -> Option<bool>
         ensures { result ≡ edge self }
     {
-        match (self.stage_a, self.stage_b) {
-            (true, false) => Some(true),
-            (false, true) => Some(false),
-            _ => None,
+        if self.stage_a == self.stage_b {
+            None
+        } else {
+            Some(self.stage_a)
         }
     }
 

@@ -5,6 +5,7 @@
 use listing::TEXT;
 
 // A write that fails ends the text.
+#[tactic(auto, using(score::proofs::Fields::stands))]
 fn print_fields(s: &[u8]) {
     let mut line = [0u8; TEXT];
     let mut at: usize = 0;
