@@ -18,7 +18,7 @@ for file in crates/*/src/*.rt; do
       type = toupper(substr(type, 1, 1)) substr(type, 2) trait "::"; promises = 0; next
     }
     /^    ghost [a-z_]* = / { promises = 1 }
-    /^impl / { type = $2 "::" }
+    /^impl[ <]/ { type = $0; sub(/^impl(<[^ ]*>)? /, "", type); sub(/[ <].*/, "", type); type = type "::" }
     /^}/ { type = ""; promises = 0 }
     promises && /^    fn / { name = $0; sub(/.*fn /, "", name); sub(/[(<].*/, "", name); print crate "::" type name }
     /^ *pub (extern "C" )?(const )?fn / { name = $0; sub(/.*fn /, "", name); sub(/[(<].*/, "", name); print crate "::" type name }

@@ -7,7 +7,6 @@ use Rattle.laws.specs.Times.{times}
 use Rattle.bus.specs.Bus.{holds, kept}
 use Rattle.bus.proofs.Fade.{byte_fades}
 use Rattle.envelope.specs.Envelope.{period_of, divisor_for, down, fresh, rising_rate_selected, rate_in_force, target_refreshed, quiescent, sustain_release_set}
-use Rattle.envelope.specs.Sets.{set_hold_level, set_fall_rate}
 use Rattle.envelope.specs.declared.Envelope.{Envelope}
 use Rattle.envelope.specs.declared.EnvelopeMotion.TheVariants.{FallingToZero}
 use Rattle.envelope.proofs.Periods.{period_range, period_zero}
@@ -82,7 +81,7 @@ still_rises e byte h = record {
   motion_delay = h.motion_delay;
   level_delay = h.level_delay;
   curve_delay = h.curve_delay;
-  target = omega (arith, period_range (rate_in_force (set_fall_rate (set_hold_level e (byte / 16 * 17)) (byte % 16))));
+  target = omega (arith, period_range (rate_in_force (record e { hold_level = byte / 16 * 17; fall_rate = byte % 16 })));
 }
 
 reaching : (byte : ℕ) → byte / 16 * 17 ≡ 0xff → Reaching byte

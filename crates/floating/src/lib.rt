@@ -21,7 +21,8 @@ pub struct FloatingBus {
     pub charge: [u16; 12],
 }
 
-// A time that is not set: the original's number and no Option, as a time can come out at it (`never`, laws/specs/Cycle).
+// A time that is not set: the original's number and no Option, since a time can come out at it (`never`,
+// laws/specs/Cycle).
 const NEVER: u64 = u64::MAX;
 
 const WAVEFORM_MASK: u16 = 0x0fff;

@@ -35,7 +35,8 @@ struct Stages {
     charge: [u16; 23],
 }
 
-// A time that is not set: the original's number and no Option, as a time can come out at it (`never`, laws/specs/Cycle).
+// A time that is not set: the original's number and no Option, since a time can come out at it (`never`,
+// laws/specs/Cycle).
 const NEVER: u64 = u64::MAX;
 
 const NOISE_EVENT_MASK: u32 = 0x0008_0000;

@@ -1,4 +1,5 @@
 pub mod Alike
+pub mod Chains
 pub mod Due
 pub mod Feedback
 pub mod Floats

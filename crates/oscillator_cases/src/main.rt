@@ -5,8 +5,6 @@
 // The digests hold the Rust's own cycle; here the program holds it, and hands it to every call that takes one.
 #![tactic(auto)]
 
-ghost use Rattle.std.specs.Prelude.{◌+◌, ◌≤◌, length};
-
 use cases::Tally;
 use floating::{Floating, FloatingBus};
 use noise::{Noise, NoiseGenerator};
@@ -26,22 +24,12 @@ struct Gave {
     left: Timed,
 }
 
-fn stage_charges(list: &[u8], at: usize) -> [u16; 23] {
-    let mut charge = [0u16; 23];
-    if at < 65536 {
-        for stage in 0..23usize {
-            charge[stage] = words::u16_at(list, at + 2 * stage);
-        }
-    }
-    charge
-}
-
-fn line_charges(list: &[u8], at: usize) -> [u16; 12] {
-    let mut charge = [0u16; 12];
-    if at < 65536 {
-        for line in 0..12usize {
-            charge[line] = words::u16_at(list, at + 2 * line);
-        }
+// The charges from a place of the list on.
+fn charges_at<const N: usize>(list: &[u8], at: usize) -> [u16; N] {
+    let mut charge = [0u16; N];
+    let bytes = list.get(at..).unwrap_or(&[]);
+    for (q, pair) in charge.iter_mut().zip(bytes.chunks_exact(2)) {
+        *q = words::u16_at(pair, 0);
     }
     charge
 }
@@ -50,178 +38,141 @@ fn line_charges(list: &[u8], at: usize) -> [u16; 12] {
 fn state(list: &[u8], number: usize) -> Timed {
     let at = number % 341 * 192;
     let flags = words::u8_at(list, at + 5);
-    let control = Control {
-        frequency: words::u16_at(list, at),
-        pulse_width: words::u16_at(list, at + 2),
-        waveform: words::u8_at(list, at + 4),
-        sync_enabled: flags % 2 == 1,
-        ring_enabled: flags / 2 % 2 == 1,
-        test_enabled: flags / 4 % 2 == 1,
-    };
-    let tone = Tone {
-        accumulator: words::u32_at(list, at + 6),
-        msb_rising: flags / 8 % 2 == 1,
-        last_sample: words::u16_at(list, at + 10),
-        pulse_output: words::u16_at(list, at + 12),
-        readback: words::u16_at(list, at + 22),
-    };
-    let numbers = Noise {
-        state: words::u32_at(list, at + 24),
-        visible: words::u16_at(list, at + 28),
-        captured: words::u32_at(list, at + 30),
-        transfer_at: words::u64_at(list, at + 34),
-        normal_transfer_at: words::u64_at(list, at + 42),
-        next_leak: words::u64_at(list, at + 50),
-    };
-    let captured_charge = stage_charges(list, at + 58);
-    let charge = stage_charges(list, at + 104);
-    let noise = NoiseGenerator {
-        numbers,
-        captured_charge,
-        charge,
-    };
-    let floats = Floating {
-        value: words::u16_at(list, at + 150),
-        hold_until: words::u64_at(list, at + 152),
-        next_leak: words::u64_at(list, at + 160),
-    };
-    let lines = line_charges(list, at + 168);
-    let bus = FloatingBus {
-        numbers: floats,
-        charge: lines,
-    };
-    let oscillator = Oscillator {
-        control,
-        tone,
-        noise,
-        bus,
-    };
+    let captured_charge = charges_at(list, at + 58);
+    let charge = charges_at(list, at + 104);
+    let lines = charges_at(list, at + 168);
     Timed {
-        oscillator,
+        oscillator: Oscillator {
+            control: Control {
+                frequency: words::u16_at(list, at),
+                pulse_width: words::u16_at(list, at + 2),
+                waveform: words::u8_at(list, at + 4),
+                sync_enabled: flags % 2 == 1,
+                ring_enabled: flags / 2 % 2 == 1,
+                test_enabled: flags / 4 % 2 == 1,
+            },
+            tone: Tone {
+                accumulator: words::u32_at(list, at + 6),
+                msb_rising: flags / 8 % 2 == 1,
+                last_sample: words::u16_at(list, at + 10),
+                pulse_output: words::u16_at(list, at + 12),
+                readback: words::u16_at(list, at + 22),
+            },
+            noise: NoiseGenerator {
+                numbers: Noise {
+                    state: words::u32_at(list, at + 24),
+                    visible: words::u16_at(list, at + 28),
+                    captured: words::u32_at(list, at + 30),
+                    transfer_at: words::u64_at(list, at + 34),
+                    normal_transfer_at: words::u64_at(list, at + 42),
+                    next_leak: words::u64_at(list, at + 50),
+                },
+                captured_charge,
+                charge,
+            },
+            bus: FloatingBus {
+                numbers: Floating {
+                    value: words::u16_at(list, at + 150),
+                    hold_until: words::u64_at(list, at + 152),
+                    next_leak: words::u64_at(list, at + 160),
+                },
+                charge: lines,
+            },
+        },
         cycle: words::u64_at(list, at + 14),
     }
 }
 
 fn with(digest: u64, field: u64) -> u64 {
-    let turned = (digest << 7) | (digest >> 57);
-    std::num::wrapping_add_u64(turned ^ field, 0x9e37_79b9_7f4a_7c15)
+    (digest.rotate_left(7) ^ field).wrapping_add(0x9e37_79b9_7f4a_7c15)
 }
 
-fn with_flag(flags: u8, flag: bool) -> u8 {
-    if flag {
-        return flags % 128 * 2 + 1;
-    }
-    flags % 128 * 2
+fn with_all(before: u64, fields: &[u64]) -> u64 {
+    fields
+        .iter()
+        .fold(before, |digest, field| with(digest, *field))
 }
 
-fn with_stages(before: u64, charge: [u16; 23]) -> u64 {
-    let mut digest = before;
-    for stage in 0..23usize {
-        digest = with(digest, charge[stage] as u64);
-    }
-    digest
-}
-
-fn with_lines(before: u64, charge: [u16; 12]) -> u64 {
-    let mut digest = before;
-    for line in 0..12usize {
-        digest = with(digest, charge[line] as u64);
-    }
-    digest
-}
-
-fn with_control(before: u64, c: Control) -> u64 {
-    let a = with(before, c.frequency as u64);
-    let b = with(a, c.pulse_width as u64);
-    with(b, c.waveform as u64)
-}
-
-fn with_tone(before: u64, c: Control, t: Tone, cycle: u64) -> u64 {
-    let flags = with_flag(
-        with_flag(
-            with_flag(with_flag(0, t.msb_rising), c.test_enabled),
-            c.ring_enabled,
-        ),
-        c.sync_enabled,
-    );
-    let a = with(before, flags as u64);
-    let b = with(a, t.accumulator as u64);
-    let d = with(b, t.last_sample as u64);
-    let e = with(d, t.pulse_output as u64);
-    let f = with(e, cycle);
-    with(f, t.readback as u64)
-}
-
-fn with_noise(before: u64, n: Noise) -> u64 {
-    let a = with(before, n.state as u64);
-    let b = with(a, n.visible as u64);
-    let c = with(b, n.captured as u64);
-    let d = with(c, n.transfer_at);
-    let e = with(d, n.normal_transfer_at);
-    with(e, n.next_leak)
-}
-
-fn with_floating(before: u64, f: Floating) -> u64 {
-    let a = with(before, f.value as u64);
-    let b = with(a, f.hold_until);
-    with(b, f.next_leak)
+fn with_charges(before: u64, charge: &[u16]) -> u64 {
+    charge
+        .iter()
+        .fold(before, |digest, q| with(digest, *q as u64))
 }
 
 fn digest(timed: Timed) -> u64 {
-    let o = timed.oscillator;
-    let control = o.control;
-    let tone = o.tone;
-    let noise = o.noise;
-    let bus = o.bus;
-    let numbers = noise.numbers;
-    let captured_charge = noise.captured_charge;
-    let charge = noise.charge;
-    let floats = bus.numbers;
-    let lines = bus.charge;
-    let a = with_tone(with_control(0, control), control, tone, timed.cycle);
-    let b = with_stages(with_stages(with_noise(a, numbers), captured_charge), charge);
-    with_lines(with_floating(b, floats), lines)
+    let c = timed.oscillator.control;
+    let t = timed.oscillator.tone;
+    let n = timed.oscillator.noise.numbers;
+    let f = timed.oscillator.bus.numbers;
+    let flags = (t.msb_rising as u64) << 3
+        | (c.test_enabled as u64) << 2
+        | (c.ring_enabled as u64) << 1
+        | c.sync_enabled as u64;
+    let numbers = [
+        c.frequency as u64,
+        c.pulse_width as u64,
+        c.waveform as u64,
+        flags,
+        t.accumulator as u64,
+        t.last_sample as u64,
+        t.pulse_output as u64,
+        timed.cycle,
+        t.readback as u64,
+        n.state as u64,
+        n.visible as u64,
+        n.captured as u64,
+        n.transfer_at,
+        n.normal_transfer_at,
+        n.next_leak,
+    ];
+    let captured = with_charges(
+        with_all(0, &numbers),
+        &timed.oscillator.noise.captured_charge,
+    );
+    let held = with_charges(captured, &timed.oscillator.noise.charge);
+    let floats = with_all(held, &[f.value as u64, f.hold_until, f.next_leak]);
+    with_charges(floats, &timed.oscillator.bus.charge)
 }
 
 // What a call leaves that gives nothing.
 fn silent(oscillator: Oscillator, cycle: u64) -> Gave {
-    let left = Timed { oscillator, cycle };
-    Gave { code: 0, left }
+    Gave {
+        code: 0,
+        left: Timed { oscillator, cycle },
+    }
 }
 
 fn clock(before: Timed) -> Gave {
-    let cycle = std::num::wrapping_add_u64(before.cycle, 1);
+    let cycle = before.cycle.wrapping_add(1);
     silent(before.oscillator.clock_accumulator(cycle), cycle)
 }
 
 fn evaluate(before: Timed, modulator: u32) -> Gave {
     let cycle = before.cycle;
     let e = before.oscillator.evaluate_output(modulator, cycle);
-    let oscillator = e.oscillator;
-    let left = Timed { oscillator, cycle };
-    Gave { code: e.code, left }
+    Gave {
+        code: e.code,
+        left: Timed {
+            oscillator: e.oscillator,
+            cycle,
+        },
+    }
 }
 
 fn tick(before: Timed, modulator: u32) -> Gave {
-    let clocked = clock(before);
-    let e = evaluate(clocked.left, modulator);
-    let code = e.code;
-    let evaluated = e.left;
-    let cycle = evaluated.cycle;
-    let fed = evaluated.oscillator.apply_combined_feedback(code);
-    let oscillator = fed.latch_output(code, cycle);
-    let left = Timed { oscillator, cycle };
-    Gave { code, left }
+    let mut e = evaluate(clock(before).left, modulator);
+    let cycle = e.left.cycle;
+    e.left.oscillator = e
+        .left
+        .oscillator
+        .apply_combined_feedback(e.code)
+        .latch_output(e.code, cycle);
+    e
 }
 
-fn run(before: Timed, clocks: u32) -> Gave {
-    let mut timed = before;
-    let mut left = clocks;
-    while 0 < left {
-        let e = tick(timed, timed.oscillator.tone.accumulator);
-        let next = e.left;
-        timed = next;
-        left = left - 1;
+fn run(mut timed: Timed, clocks: u32) -> Gave {
+    for _ in 0..clocks {
+        timed = tick(timed, timed.oscillator.tone.accumulator).left;
     }
     Gave {
         code: timed.oscillator.tone.last_sample,
@@ -256,16 +207,16 @@ fn made(call: u8, operand: u32, timed: Timed, states: &[u8]) -> Gave {
             left: timed,
         },
         14 => Gave {
-            code: if o.output_is_frozen() { 1 } else { 0 },
+            code: o.output_is_frozen() as u16,
             left: timed,
         },
         15 => tick(timed, operand),
         16 => run(timed, operand),
-        17 => silent(o, std::num::wrapping_add_u64(cycle, operand as u64)),
-        _ => {
-            let left = state(states, operand as usize);
-            Gave { code: 0, left }
-        }
+        17 => silent(o, cycle.wrapping_add(operand as u64)),
+        _ => Gave {
+            code: 0,
+            left: state(states, operand as usize),
+        },
     }
 }
 
@@ -275,22 +226,14 @@ struct Compared {
     left: Timed,
 }
 
-// The call at a place of the list.
-fn call_at(calls: &[u8], at: usize, timed: Timed, states: &[u8]) -> Compared
-    requires { at + 15 ≤ length calls.now }
-{
-    let gave = made(
-        words::u8_at(calls, at),
-        words::u32_at(calls, at + 1),
-        timed,
-        states,
-    );
-    let code = words::u16_at(calls, at + 5);
-    let after = words::u64_at(calls, at + 7);
-    let left = gave.left;
+// One call of the list, its 15 bytes.
+fn call_of(call: &[u8], timed: Timed, states: &[u8]) -> Compared {
+    let gave = made(words::u8_at(call, 0), words::u32_at(call, 1), timed, states);
+    let code = words::u16_at(call, 5);
+    let after = words::u64_at(call, 7);
     Compared {
-        same: gave.code == code && digest(left) == after,
-        left,
+        same: gave.code == code && digest(gave.left) == after,
+        left: gave.left,
     }
 }
 
@@ -300,15 +243,10 @@ fn replay(calls: &[u8], states: &[u8]) -> Tally {
         oscillator: Oscillator::new(),
         cycle: 0,
     };
-    let mut rest = calls.len() / 15;
-    let mut at: usize = 0;
-    while 0 < rest {
-        let c = call_at(calls, at, timed, states);
-        let next = c.left;
-        timed = next;
+    for call in calls.chunks_exact(15) {
+        let c = call_of(call, timed, states);
+        timed = c.left;
         tally = tally.count(c.same);
-        at = at + 15;
-        rest = rest - 1;
     }
     tally
 }

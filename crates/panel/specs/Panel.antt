@@ -1,12 +1,13 @@
 -- The panel: a chip, the clocks that it has run, and whether its bus is watched. Document 01, 'Score and program';
 -- document 02, request 5.
 use Rattle.std.specs.Prelude.{ℕ, ◌+◌, ◌-◌, min, true, false}
+use Rattle.std.specs.Result.{result_unwrap_or}
 use Rattle.bus.specs.Bus.{to_expiry}
 use Rattle.bus.specs.declared.InternalDataBus.{InternalDataBus}
 use Rattle.oscillator.specs.Ways.{Ways, stepwise}
 use Rattle.sid.specs.declared.Mos6581.{Mos6581}
 use Rattle.sid.specs.declared.Voice.{Voice}
-use Rattle.sid.specs.Sid.{fresh as sid_fresh, ticked_by, ticks_by, written as the-written-Sid, read_at, code_of, level_of, named, Told, code, level, held, refused}
+use Rattle.sid.specs.Sid.{fresh as sid_fresh, ticked_by, ticks_by, written as the-written-Sid, read_at, code_of, level_of, named}
 use Rattle.panel.specs.declared.Display.{Display}
 use Rattle.panel.specs.declared.Leapt.{Leapt}
 use Rattle.panel.specs.declared.Panel.{Panel}
@@ -64,19 +65,6 @@ shown v = record { code = code_of v; level = level_of v }
 unfoldable pub levels : Panel → Display
 levels p = record { voice_0 = shown p.chip.voice_0; voice_1 = shown p.chip.voice_1; voice_2 = shown p.chip.voice_2 }
 
--- the code or the level that an answer of the chip tells; 0 of another answer
-abbrev pub code_told : Told → ℕ
-code_told (code x) = x
-code_told (level x) = 0
-code_told (held x) = 0
-code_told (refused t) = 0
-
-abbrev pub level_told : Told → ℕ
-level_told (code x) = 0
-level_told (level x) = x
-level_told (held x) = 0
-level_told (refused t) = 0
-
--- what the chip's calls tell of the voice that they name
+-- what the chip's calls tell of the voice that they name; 0 of a refusal
 unfoldable pub shown_told : Mos6581 → ℕ → Shown
-shown_told c n = record { code = code_told (named c n (λ v. code (code_of v))); level = level_told (named c n (λ v. level (level_of v))) }
+shown_told c n = record { code = result_unwrap_or (named c n code_of) 0; level = result_unwrap_or (named c n level_of) 0 }

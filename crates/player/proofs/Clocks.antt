@@ -1,5 +1,6 @@
 -- A field of an accepted score meets a fresh chip after as many ticks as its stamp says, all counted; no score runs
 -- long enough for the chip's ticks to be other than document 01's. Assumes nothing.
+use Rattle.std.specs.Prelude.{Ok}
 use Prim.Native.Nat.{ℕ, ◌+◌, ◌-◌, ◌≤◌}
 use native.Mathlib.Omega.{arith}
 use mathlib.Core.Bool.{true}
@@ -14,7 +15,7 @@ use Rattle.score.specs.declared.Order.{Order}
 use Rattle.score.specs.declared.What.{What}
 use Rattle.score.specs.declared.What.TheVariants.{Write, Read, Levels, Watch, End}
 use Rattle.score.specs.Fields.{is_end}
-use Rattle.score.specs.Scores.{good, score_of, clocks_of as scores_clocks_of, Chain, ends, goes}
+use Rattle.score.specs.Scores.{score_of, clocks_of as scores_clocks_of, Chain, ends, goes}
 use Rattle.score.proofs.Chains.{score_chain}
 use Rattle.score.proofs.Stamps.{Admits, admits}
 use Rattle.oscillator.specs.Ways.{afresh, stepwise}
@@ -118,7 +119,7 @@ pub record Meets (xs : List Field) (f : Field) : Type 0 where
   pub clock : (at_stamp f (played xs fresh)).clock ≡ f.stamp
   pub not_over : f.stamp ≤ 100000000
 
-pub stamp_clocks : (s : List ℕ) (xs : List Field) (f : Field) (ys : List Field) → score_of s ≡ good (xs ++ (f ∷ ys)) → Meets xs f
+pub stamp_clocks : (s : List ℕ) (xs : List Field) (f : Field) (ys : List Field) → score_of s ≡ Ok (xs ++ (f ∷ ys)) → Meets xs f
 stamp_clocks s xs f ys e =
     let finds = on_stamp_lem (score_chain s e).0 xs f ys refl fresh refl in
     let calls = calls_to 0 xs f.stamp in
@@ -173,6 +174,6 @@ closes (goes {f = f} {fs = fs} e a i r) p k =
     })
 
 -- `E` gives the clocks that the check answers, and they were run
-pub end_clocks : (s : List ℕ) (fs : List Field) → score_of s ≡ good fs → Closes (listing s) (played fs fresh) (scores_clocks_of fs)
+pub end_clocks : (s : List ℕ) (fs : List Field) → score_of s ≡ Ok fs → Closes (listing s) (played fs fresh) (scores_clocks_of fs)
 unfolding listing_by
 end_clocks s fs e = rw e (closes (score_chain s e).0 fresh refl)

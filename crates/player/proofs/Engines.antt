@@ -1,5 +1,6 @@
 -- Ways that tick every chip alike print the same listing of any score; so do a filled pack, an empty one and the plain
 -- engine. Assumes nothing.
+use Rattle.std.specs.Prelude.{Ok, Err}
 use Prim.Native.Nat.{ℕ, zero, suc, ◌+◌, ◌-◌}
 use mathlib.Core.Bool.{cond}
 use mathlib.Core.List.{List, [], ◌∷◌, ◌++◌}
@@ -11,7 +12,7 @@ use Rattle.pack.proofs.Engines.{over_filled, over_empty}
 use Rattle.panel.specs.declared.Panel.{Panel}
 use Rattle.panel.specs.Panel.{fresh, bus_of, clocked_by, ran_to_by}
 use Rattle.score.specs.declared.Field.{Field}
-use Rattle.score.specs.Scores.{Parsed, good, bad, score_of}
+use Rattle.score.specs.Scores.{Parsed, score_of}
 use Rattle.sid.specs.declared.Mos6581.{Mos6581}
 use Rattle.sid.specs.Sid.{ticked_by}
 use Rattle.sid.proofs.Ticks.{ticks_alike}
@@ -46,8 +47,8 @@ module _ (w x : Ways) (alike : (c : Mos6581) → ticked_by w c ≡ ticked_by x c
       ∙ ap (λ (rest : List ℕ). text_by x f p ++ rest) (play_alike fs (done_by f.what (at_stamp_by x f p)))
 
   parsed_alike : (p : Parsed) → listing_of_by w p ≡ listing_of_by x p
-  parsed_alike (good fs) = play_alike fs fresh
-  parsed_alike (bad r) = refl
+  parsed_alike (Ok fs) = play_alike fs fresh
+  parsed_alike (Err r) = refl
 
   pub listing_alike : (s : List ℕ) → listing_by w s ≡ listing_by x s
   unfolding listing_by

@@ -1,5 +1,6 @@
 -- A field's line stands in its place, and shows a fresh chip after as many ticks as its stamp says, by document 01's
 -- ways. Assumes nothing.
+use Rattle.std.specs.Prelude.{Ok}
 use Prim.Native.Nat.{ℕ}
 use mathlib.Core.List.{List, [], ◌∷◌, ◌++◌, append_assoc}
 use mathlib.Core.Path.{◌≡◌, refl, ap, sym, ◌∙◌}
@@ -9,7 +10,7 @@ use Rattle.panel.specs.Panel.{fresh, read_of, levels}
 use Rattle.score.specs.declared.Field.{Field}
 use Rattle.score.specs.declared.What.{What}
 use Rattle.score.specs.declared.What.TheVariants.{Write, Read, Levels, Watch, End}
-use Rattle.score.specs.Scores.{good, score_of}
+use Rattle.score.specs.Scores.{score_of}
 use Rattle.player.specs.ScoreCalls.{shown_by, Shows}
 use Rattle.oscillator.specs.Ways.{stepwise}
 use Rattle.player.specs.Listing.{line_of, done_by, at_stamp, watched, text_by, play, play_by, played, played_by, listing_of, listing, listing_by}
@@ -34,7 +35,7 @@ line_shown t Levels p k = refl
 line_shown t Watch p k = refl
 line_shown t End p k = ap end_line k
 
-pub line_shows : (s : List ℕ) (xs : List Field) (f : Field) (ys : List Field) → score_of s ≡ good (xs ++ (f ∷ ys)) → Shows (listing s) xs f
+pub line_shows : (s : List ℕ) (xs : List Field) (f : Field) (ys : List Field) → score_of s ≡ Ok (xs ++ (f ∷ ys)) → Shows (listing s) xs f
 unfolding listing_by play_by
 line_shows s xs f ys e =
     let m = stamp_clocks s xs f ys e in

@@ -1,5 +1,6 @@
 -- By any ways, the lines of a player's steps, joined, are the score's listing, and leave the panel as it does. Assumes
 -- nothing.
+use Rattle.std.specs.Prelude.{Ok, Err}
 use Prim.Native.Nat.{ℕ, zero, suc, ◌+◌, ◌*◌, ◌≤◌}
 use native.Mathlib.Omega.{arith}
 use mathlib.Core.List.{List, [], ◌++◌, append-nil}
@@ -9,13 +10,12 @@ use Rattle.listing.specs.Text.{refused_line}
 use Rattle.oscillator.specs.Ways.{Ways}
 use Rattle.panel.specs.declared.Panel.{Panel}
 use Rattle.panel.specs.Panel.{fresh}
-use Rattle.refusals.specs.declared.Refused.{Refused as Refusing}
+use Rattle.refusals.specs.declared.Refused.{Refused}
 use Rattle.refusals.specs.Refusals.{told}
 use Rattle.score.specs.declared.Field.{Field}
-use Rattle.score.specs.declared.FieldRead.{FieldRead}
 use Rattle.score.specs.declared.Order.{Order}
-use Rattle.score.specs.Fields.{field_at}
-use Rattle.score.specs.Scores.{Parsed, good, bad, score_of, answer, checked, Chain, ends, goes}
+use Rattle.score.specs.Fields.{FieldRead, field_at}
+use Rattle.score.specs.Scores.{Parsed, score_of, answer, checked, Chain, ends, goes}
 use Rattle.score.proofs.Chains.{score_chain}
 use Rattle.score.proofs.Fields.{stands, whole_four}
 use Rattle.player.specs.declared.Player.{Player}
@@ -28,7 +28,7 @@ module _ (w : Ways) (s : List ℕ) (p : Player) where
   unfolding turn
   turn_nothing e = rw e
 
-  pub turn_refusal : {r : Refusing} → p.rest ≡ Refusal r → turn w s p ≡ on_refusal p.panel r
+  pub turn_refusal : {r : Refused} → p.rest ≡ Refusal r → turn w s p ≡ on_refusal p.panel r
   unfolding turn
   turn_refusal e = rw e
 
@@ -84,12 +84,12 @@ module _ (w : Ways) (s : List ℕ) where
       : (p : Parsed)
       → score_of s ≡ p
       → (n : ℕ)
-      → ((fs : List Field) → score_of s ≡ good fs → length fs ≤ n)
+      → ((fs : List Field) → score_of s ≡ Ok fs → length fs ≤ n)
       → 1 ≤ n
       → Plays w n s (player fresh (rest_by (answer p))) (listing_of_by w p) (panel_of_by w p)
-  from (good fs) e n few h = plays (score_chain s e).0 w fresh n (few fs e)
-  from (bad r) e zero few h = absurd (omega arith)
-  from (bad r) e (suc n) few h =
+  from (Ok fs) e n few h = plays (score_chain s e).0 w fresh n (few fs e)
+  from (Err r) e zero few h = absurd (omega arith)
+  from (Err r) e (suc n) few h =
       subst (λ (x : List ℕ). Plays w (suc n) s (player fresh (Refusal r)) x fresh) (append-nil (refused_line (told r)))
       (then (turn_refusal w s (player fresh (Refusal r)) refl) (rests w n s fresh))
 

@@ -1,6 +1,7 @@
 -- From the first watch on each clock that loses bits has its line, in its place, and shows the bus of a fresh chip
 -- after exactly as many ticks (`fade_shows`); fields without a watch print their own lines alone (`plain_listing`).
 -- Assumes nothing.
+use Rattle.std.specs.Prelude.{Ok}
 use Prim.Native.Nat.{ℕ, ◌+◌, ◌-◌, ◌≤◌, ◌<◌}
 use native.Mathlib.Omega.{arith}
 use mathlib.Core.Bool.{Bool, true, false, ◌||◌}
@@ -15,7 +16,7 @@ use Rattle.panel.specs.Panel.{fresh, bus_of, clocked_by, ran_to, ran_to_by, read
 use Rattle.score.specs.declared.Field.{Field}
 use Rattle.score.specs.declared.What.{What}
 use Rattle.score.specs.declared.What.TheVariants.{Write, Read, Levels, Watch, End}
-use Rattle.score.specs.Scores.{good, score_of}
+use Rattle.score.specs.Scores.{score_of}
 use Rattle.sid.specs.declared.Mos6581.{Mos6581}
 use Rattle.sid.specs.Sid.{clocks_of}
 use Rattle.player.specs.ScoreCalls.{calls_to, is_watch, watches, ShowsFade, plain}
@@ -77,7 +78,7 @@ module _ (p : Panel) (clock stamp : ℕ) (h : p.clock ≤ clock) (k : clock < st
 
 pub fade_shows
     : (s : List ℕ) (xs : List Field) (f : Field) (ys : List Field)
-    → score_of s ≡ good (xs ++ (f ∷ ys))
+    → score_of s ≡ Ok (xs ++ (f ∷ ys))
     → watches xs ≡ true
     → (clock : ℕ)
     → (played xs fresh).clock ≤ clock
@@ -127,6 +128,6 @@ unwatched_plain (f ∷ fs) p h e =
     ap₂ (λ (way rest : List ℕ). (way ++ line_of f.stamp f.what (at_stamp f p)) ++ rest) (unwatched stepwise f.stamp p e) (unwatched_plain fs q n.1 off)
 
 -- 'Scores without the field print as before'
-pub plain_listing : (s : List ℕ) (fs : List Field) → score_of s ≡ good fs → watches fs ≡ false → listing s ≡ plain fs fresh
+pub plain_listing : (s : List ℕ) (fs : List Field) → score_of s ≡ Ok fs → watches fs ≡ false → listing s ≡ plain fs fresh
 unfolding listing_by
 plain_listing s fs e h = ap listing_of e ∙ unwatched_plain fs fresh h refl

@@ -1,16 +1,15 @@
 -- A listing in a lent buffer.
-use Rattle.std.specs.Prelude.{ℕ, cond, List, ltb, length}
+use Rattle.std.specs.Prelude.{ℕ, cond, List, ltb, length, Result, Ok, Err}
 use Rattle.std.proofs.lemmas.List.Edits.{sets}
 use Rattle.oscillator.specs.Ways.{Ways}
+use Rattle.refusals.specs.declared.Refused.{Refused}
 use Rattle.refusals.specs.Refusals.{refused}
 use Rattle.refusals.specs.declared.Refusal.TheVariants.{NoRoom}
-use Rattle.player.specs.declared.Listed.{Listed}
-use Rattle.player.specs.declared.Listed.TheVariants.{Written, Refused}
 use Rattle.player.specs.Listing.{listing_by}
 
 -- the listing's length, or 13 at 0 where the room is less
-unfoldable pub into_answer : Ways → List ℕ → ℕ → Listed
-into_answer w s room = cond (ltb room (length (listing_by w s))) (Refused (refused NoRoom 0)) (Written (length (listing_by w s)))
+unfoldable pub into_answer : Ways → List ℕ → ℕ → Result ℕ Refused
+into_answer w s room = cond (ltb room (length (listing_by w s))) (Err (refused NoRoom 0)) (Ok (length (listing_by w s)))
 
 -- the listing at the start of l; l as it was where the listing is longer
 unfoldable pub into_buffer : Ways → List ℕ → List ℕ → List ℕ

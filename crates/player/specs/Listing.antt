@@ -1,7 +1,7 @@
 -- What `replay` prints of a score: document 01, 'Score and program'; document 02, request 5.
 -- A panel plays the fields of an accepted score one after the other, and each may print a line; so may each clock
 -- before it, once the bus is watched.
-use Rattle.std.specs.Prelude.{ℕ, zero, suc, ◌+◌, ◌-◌, cond, List, [], ◌∷◌, ◌++◌, eqb}
+use Rattle.std.specs.Prelude.{ℕ, zero, suc, ◌+◌, ◌-◌, cond, List, [], ◌∷◌, ◌++◌, eqb, Ok, Err}
 use Rattle.bus.specs.Bus.{lost}
 use Rattle.listing.specs.Text.{read_line, levels_line, end_line, fade_line, refused_line}
 use Rattle.oscillator.specs.Ways.{Ways, stepwise}
@@ -12,7 +12,7 @@ use Rattle.refusals.specs.Refusals.{told}
 use Rattle.score.specs.declared.Field.{Field}
 use Rattle.score.specs.declared.What.{What}
 use Rattle.score.specs.declared.What.TheVariants.{Write, Read, Levels, Watch, End}
-use Rattle.score.specs.Scores.{Parsed, good, bad, score_of}
+use Rattle.score.specs.Scores.{Parsed, score_of}
 
 -- 'code and level three times, voices 0 to 2'
 abbrev pub shown_line : ℕ → Display → List ℕ
@@ -69,8 +69,8 @@ played_by w (f ∷ fs) p = played_by w fs (done_by f.what (at_stamp_by w f p))
 
 -- 'A refused score gives refused number at place alone'
 abbrev pub listing_of_by : Ways → Parsed → List ℕ
-listing_of_by w (good fs) = play_by w fs fresh
-listing_of_by w (bad r) = refused_line (told r)
+listing_of_by w (Ok fs) = play_by w fs fresh
+listing_of_by w (Err r) = refused_line (told r)
 
 -- 'The score is checked whole before the first clock': from a score's bytes, the bytes of its listing
 unfoldable pub listing_by : Ways → List ℕ → List ℕ
@@ -78,8 +78,8 @@ listing_by w s = listing_of_by w (score_of s)
 
 -- the panel after a score: a refused one runs no clock
 abbrev pub panel_of_by : Ways → Parsed → Panel
-panel_of_by w (good fs) = played_by w fs fresh
-panel_of_by w (bad r) = fresh
+panel_of_by w (Ok fs) = played_by w fs fresh
+panel_of_by w (Err r) = fresh
 
 -- ---- the same by a chip's ways
 

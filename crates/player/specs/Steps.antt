@@ -1,32 +1,28 @@
 -- A player's steps over a score, one field each.
-use Rattle.std.specs.Prelude.{ℕ, zero, suc, ◌+◌, ◌*◌, ◌≤◌, Bool, true, false, cond, List, [], ◌++◌, ◌≡◌}
+use Rattle.std.specs.Prelude.{ℕ, zero, suc, ◌+◌, ◌*◌, ◌≤◌, Bool, true, false, cond, List, [], ◌++◌, ◌≡◌, Result, Ok, Err, length}
 use Rattle.listing.specs.Text.{Put, text_room, line_room, fade_room, refused_line}
 use Rattle.oscillator.specs.Ways.{Ways}
 use Rattle.panel.specs.declared.Panel.{Panel}
 use Rattle.panel.specs.Panel.{fresh, ran_to_by}
-use Rattle.refusals.specs.declared.Refused.{Refused as Refusing}
+use Rattle.refusals.specs.declared.Refused.{Refused}
 use Rattle.refusals.specs.Refusals.{told}
-use Rattle.score.specs.declared.Checked.{Checked}
-use Rattle.score.specs.declared.Checked.TheVariants.{Accepted, Refused as Unaccepted}
 use Rattle.score.specs.declared.Field.{Field}
-use Rattle.score.specs.declared.FieldRead.{FieldRead}
-use Rattle.score.specs.declared.FieldRead.TheVariants.{Got, Refused}
-use Rattle.score.specs.Fields.{field_at, is_end}
-use Rattle.score.specs.Scores.{checked}
+use Rattle.score.specs.Fields.{FieldRead, field_at, is_end}
+use Rattle.score.specs.Scores.{checked, score_of}
 use Rattle.player.specs.declared.Player.{Player}
 use Rattle.player.specs.declared.Ran.{Ran}
 use Rattle.player.specs.declared.Rest.{Rest}
 use Rattle.player.specs.declared.Rest.TheVariants.{Fields, Refusal, Nothing}
 use Rattle.player.specs.declared.Stepped.{Stepped}
-use Rattle.player.specs.Listing.{line_of, done_by, at_stamp_by, watched_by, text_by}
+use Rattle.player.specs.Listing.{line_of, done_by, at_stamp_by, watched_by, text_by, listing_by, panel_of_by}
 
 abbrev pub player : Panel → Rest → Player
 player p rest = record { panel = p; rest = rest }
 
 -- what a checked score leaves to do
-abbrev pub rest_by : Checked → Rest
-rest_by (Accepted clocks) = Fields 0
-rest_by (Unaccepted r) = Refusal r
+abbrev pub rest_by : Result ℕ Refused → Rest
+rest_by (Ok clocks) = Fields 0
+rest_by (Err r) = Refusal r
 
 -- 'The score is checked whole before the first clock'
 unfoldable pub start_of : List ℕ → Player
@@ -50,12 +46,12 @@ on_field w p f next =
       text = text_by w f p;
     }
 
-abbrev pub on_refusal : Panel → Refusing → Turn
+abbrev pub on_refusal : Panel → Refused → Turn
 on_refusal p r = record { next = player p Nothing; text = refused_line (told r) }
 
 abbrev pub on_read : Ways → Panel → FieldRead → Turn
-on_read w p (Got f next) = on_field w p f next
-on_read w p (Refused r) = on_refusal p r
+on_read w p (Ok (f, next)) = on_field w p f next
+on_read w p (Err r) = on_refusal p r
 
 abbrev pub turn_by : Ways → List ℕ → Panel → Rest → Turn
 turn_by w s p (Fields at) = on_read w p (field_at s at)
@@ -102,6 +98,13 @@ after w (suc n) s p = after w n s (turn w s p).next
 -- as many steps as any score takes: a field has seven bytes or more, and a score over 65,536 bytes is refused in one
 abbrev pub most_steps : ℕ
 most_steps = 9362
+
+-- what all steps of a score do: the panel after them, the length of the listing, and the listing at the start of the
+-- lent buffer l, which then is m, where it has room
+pub record PlaysScore (w : Ways) (s : List ℕ) (l : List ℕ) (r : Stepped) (m : List ℕ) : Type 0 where
+  pub panel : r.player.panel ≡ panel_of_by w (score_of s)
+  pub len : r.len ≡ length (listing_by w s)
+  pub put : length (listing_by w s) ≤ length l → Put l 0 (listing_by w s) r.len m
 
 -- some of `steps` steps from p were made: q is the player after them, `left` are left, and their lines, `at` bytes,
 -- stand at the start of l, which now is m

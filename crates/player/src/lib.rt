@@ -10,15 +10,15 @@ ghost use Rattle.pack.specs.Pack.{over};
 ghost use Rattle.player.specs.Into.{into_answer, into_buffer};
 ghost use Rattle.score.specs.Scores.{score_of};
 ghost use Rattle.player.specs.Listing.{fade_of, listing_by, panel_of_by};
-ghost use Rattle.player.specs.Steps.{start_of, is_nothing, on_field, on_stamp, on_refusal, turn, Does, DoesLine, Runs};
+ghost use Rattle.player.specs.Steps.{start_of, is_nothing, on_field, on_stamp, on_refusal, turn, Does, DoesLine, Runs, PlaysScore};
 
 use listing::TEXT;
 use panel::Panel;
 use refusals::{Refusal, Refused};
-use score::{Checked, Field, FieldRead, What};
+use score::{Field, What};
 
 // What a player has still to do: the fields from a place on, or to tell a refusal.
-#[derive(Clone, Copy)]
+#[derive(Clone, Copy, Debug, PartialEq, Eq)]
 pub enum Rest {
     Fields { at: usize },
     Refusal(Refused),
@@ -29,11 +29,7 @@ impl Rest {
     pub fn is_nothing(self) -> bool
         ensures { result ≡ is_nothing self }
     {
-        match self {
-            Rest::Fields { at: _ } => false,
-            Rest::Refusal(_) => false,
-            Rest::Nothing => true,
-        }
+        matches!(self, Rest::Nothing)
     }
 }
 
@@ -60,10 +56,13 @@ struct Ran {
 fn refuse(panel: Panel, r: Refused, line: &mut [u8; TEXT]) -> Stepped
     ensures { Does (on_refusal panel r) line.old result line.new }
 {
-    let len = listing::refused_line(line, r);
-    let rest = Rest::Nothing;
-    let player = Player { panel, rest };
-    Stepped { player, len }
+    Stepped {
+        player: Player {
+            panel,
+            rest: Rest::Nothing,
+        },
+        len: listing::refused_line(line, r),
+    }
 }
 
 // The line of a clock at a place in the text, if it loses bits.
@@ -86,134 +85,105 @@ fn run_to(panel: Panel, stamp: u32, pack: &[u16], text: &mut [u8; TEXT]) -> Ran
     ensures { Runs (over pack.now) stamp panel text.old result text.new }
 {
     if !panel.watched {
-        let there = panel.run_to(stamp, pack);
         return Ran {
-            panel: there,
+            panel: panel.run_to(stamp, pack),
             len: 0,
         };
     }
-    let mut p = panel;
-    let mut at: usize = 0;
-    while p.clock < stamp {
-        let leapt = p.leap_to(stamp, pack);
-        p = leapt.panel;
-        at = put_fade(text, at, p.clock, leapt.lost);
+    let mut ran = Ran { panel, len: 0 };
+    while ran.panel.clock < stamp {
+        let leapt = ran.panel.leap_to(stamp, pack);
+        ran.panel = leapt.panel;
+        ran.len = put_fade(text, ran.len, leapt.panel.clock, leapt.lost);
     }
-    Ran { panel: p, len: at }
+    ran
 }
 
 // A field on the panel at its stamp.
 fn do_field(there: Panel, f: Field, next: usize, line: &mut [u8; TEXT]) -> Stepped
     ensures { DoesLine (on_stamp there f next) line.old result line.new }
 {
-    let stamp = f.stamp;
-    let what = f.what;
-    match what {
-        What::Write { address, value } => {
-            let panel = there.write(address, value);
-            let rest = Rest::Fields { at: next };
-            let player = Player { panel, rest };
-            return Stepped { player, len: 0 };
-        }
+    let mut done = Stepped {
+        player: Player {
+            panel: there,
+            rest: Rest::Fields { at: next },
+        },
+        len: 0,
+    };
+    match f.what {
+        What::Write { address, value } => done.player.panel = there.write(address, value),
         What::Read { address } => {
             let read = there.read(address);
-            let len = listing::read_line(line, stamp, address, read.byte);
-            let panel = read.panel;
-            let rest = Rest::Fields { at: next };
-            let player = Player { panel, rest };
-            return Stepped { player, len };
+            done.player.panel = read.panel;
+            done.len = listing::read_line(line, f.stamp, address, read.byte);
         }
         What::Levels => {
             let display = there.levels();
-            let voice_0 = display.voice_0;
-            let voice_1 = display.voice_1;
-            let voice_2 = display.voice_2;
-            let len = listing::levels_line(
+            done.len = listing::levels_line(
                 line,
-                stamp,
-                voice_0.code,
-                voice_0.level,
-                voice_1.code,
-                voice_1.level,
-                voice_2.code,
-                voice_2.level,
+                f.stamp,
+                display.voice_0.code,
+                display.voice_0.level,
+                display.voice_1.code,
+                display.voice_1.level,
+                display.voice_2.code,
+                display.voice_2.level,
             );
-            let rest = Rest::Fields { at: next };
-            let player = Player { panel: there, rest };
-            return Stepped { player, len };
         }
-        What::Watch => {
-            let panel = there.watch();
-            let rest = Rest::Fields { at: next };
-            let player = Player { panel, rest };
-            return Stepped { player, len: 0 };
-        }
+        What::Watch => done.player.panel = there.watch(),
         What::End => {
-            let len = listing::end_line(line, there.clock);
-            let rest = Rest::Nothing;
-            let player = Player { panel: there, rest };
-            return Stepped { player, len };
+            done.player.rest = Rest::Nothing;
+            done.len = listing::end_line(line, there.clock);
         }
     }
+    done
 }
 
 fn play_field(panel: Panel, f: Field, next: usize, pack: &[u16], text: &mut [u8; TEXT]) -> Stepped
     ensures { Does (on_field (over pack.now) panel f next) text.old result text.new }
 {
     let ran = run_to(panel, f.stamp, pack, text);
-    let there = ran.panel;
     let mut line = [0u8; TEXT];
-    let done = do_field(there, f, next, &mut line);
-    let len = done.len;
-    listing::copy_into(text, ran.len, &line[..len]);
-    let player = done.player;
+    let done = do_field(ran.panel, f, next, &mut line);
+    listing::copy_into(text, ran.len, &line[..done.len]);
     Stepped {
-        player,
-        len: ran.len + len,
+        len: ran.len + done.len,
+        ..done
     }
 }
 
 impl Player {
     // The whole score is checked here, before the first clock.
+    #[tactic(auto, unfolding(crate::specs::Steps::start_of))]
     pub fn start(s: &[u8]) -> Player
         ensures { result ≡ start_of s.now }
     {
-        let panel = Panel::new();
-        match score::check_score(s) {
-            Checked::Accepted { clocks: _ } => {
-                let rest = Rest::Fields { at: 0 };
-                Player { panel, rest }
-            }
-            Checked::Refused(r) => {
-                let rest = Rest::Refusal(r);
-                Player { panel, rest }
-            }
+        let rest = match score::check_score(s) {
+            Ok(_) => Rest::Fields { at: 0 },
+            Err(r) => Rest::Refusal(r),
+        };
+        Player {
+            panel: Panel::new(),
+            rest,
         }
     }
 
     pub fn step(self, s: &[u8], pack: &[u16], line: &mut [u8; TEXT]) -> Stepped
         ensures { Does (turn (over pack.now) s.now self) line.old result line.new }
     {
-        let panel = self.panel;
-        let rest = self.rest;
-        match rest {
+        let at = match self.rest {
+            Rest::Fields { at } => at,
+            Rest::Refusal(r) => return refuse(self.panel, r, line),
             Rest::Nothing => {
                 return Stepped {
                     player: self,
                     len: 0,
                 };
             }
-            Rest::Refusal(r) => {
-                return refuse(panel, r, line);
-            }
-            Rest::Fields { at } => match reader::read_field(s, at) {
-                FieldRead::Refused(r) => {
-                    return refuse(panel, r, line);
-                }
-                FieldRead::Got(f, next) => {
-                    return play_field(panel, f, next, pack, line);
-                }
-            },
+        };
+        match reader::read_field(s, at) {
+            Ok((f, next)) => play_field(self.panel, f, next, pack, line),
+            Err(r) => refuse(self.panel, r, line),
         }
     }
 }
@@ -221,85 +191,46 @@ impl Player {
 // As many steps as any score takes (`most_steps`).
 pub const STEPS: u32 = 9362;
 
+// All steps of a score: the player after them and the length of the listing, which is put where there is room for it.
+fn play(s: &[u8], pack: &[u16], out: &mut [u8]) -> Stepped
+    ensures { PlaysScore (over pack.now) s.now out.old result out.new }
+{
+    let mut done = Stepped {
+        player: Player::start(s),
+        len: 0,
+    };
+    let mut line = [0u8; TEXT];
+    for _ in 0..STEPS {
+        if done.player.rest.is_nothing() {
+            break;
+        }
+        let next = done.player.step(s, pack, &mut line);
+        listing::copy_into(out, done.len, &line[..next.len]);
+        done.player = next.player;
+        done.len += next.len;
+    }
+    done
+}
+
 // The panel at a score's end, for a host that goes on from there; one that is refused runs no clock.
 pub fn panel_after(s: &[u8], pack: &[u16]) -> Panel
     ensures { result ≡ panel_of_by (over pack.now) (score_of s.now) }
 {
-    let mut p = Player::start(s);
-    let mut line = [0u8; TEXT];
-    let mut left: u32 = STEPS;
-    while 0 < left {
-        let rest = p.rest;
-        if rest.is_nothing() {
-            return p.panel;
-        }
-        let next = p.step(s, pack, &mut line);
-        p = next.player;
-        left = left - 1;
-    }
-    p.panel
+    play(s, pack, &mut []).player.panel
 }
 
 pub fn listing_len(s: &[u8], pack: &[u16]) -> usize
     ensures { result ≡ length (listing_by (over pack.now) s.now) }
 {
-    let mut p = Player::start(s);
-    let mut line = [0u8; TEXT];
-    let mut total: usize = 0;
-    let mut left: u32 = STEPS;
-    while 0 < left {
-        let rest = p.rest;
-        if rest.is_nothing() {
-            return total;
-        }
-        let next = p.step(s, pack, &mut line);
-        total = total + next.len;
-        p = next.player;
-        left = left - 1;
-    }
-    total
-}
-
-fn write_listing(s: &[u8], pack: &[u16], out: &mut [u8]) -> usize
-    requires { length (listing_by (over pack.now) s.now) ≤ length out.old }
-    ensures { Put out.old 0 (listing_by (over pack.now) s.now) result out.new }
-{
-    let mut p = Player::start(s);
-    let mut line = [0u8; TEXT];
-    let mut at: usize = 0;
-    let mut left: u32 = STEPS;
-    while 0 < left {
-        let rest = p.rest;
-        if rest.is_nothing() {
-            return at;
-        }
-        let next = p.step(s, pack, &mut line);
-        let len = next.len;
-        listing::copy_into(out, at, &line[..len]);
-        at = at + len;
-        p = next.player;
-        left = left - 1;
-    }
-    at
-}
-
-#[derive(Clone, Copy)]
-pub enum Listed {
-    Written(usize),
-    Refused(Refused),
+    play(s, pack, &mut []).len
 }
 
 // A score's listing at the start of a lent buffer; or 13 at 0 and the buffer as it was, where the listing is longer.
-pub fn listing_into(s: &[u8], pack: &[u16], out: &mut [u8]) -> Listed
+pub fn listing_into(s: &[u8], pack: &[u16], out: &mut [u8]) -> Result<usize, Refused>
     ensures { (result ≡ into_answer (over pack.now) s.now (length out.old)) × (out.new ≡ into_buffer (over pack.now) s.now out.old) }
 {
-    let total = listing_len(s, pack);
-    if out.len() < total {
-        return Listed::Refused(Refused {
-            why: Refusal::NoRoom,
-            place: 0,
-        });
+    if out.len() < listing_len(s, pack) {
+        return Err(Refusal::NoRoom.at(0));
     }
-    let len = write_listing(s, pack, out);
-    Listed::Written(len)
+    Ok(play(s, pack, out).len)
 }

@@ -16,8 +16,8 @@ use Rattle.player.specs.declared.Player.{Player}
 use Rattle.player.specs.Listing.{listing_by}
 use Rattle.player.specs.Steps.{start_of, is_nothing, lines, after, most_steps}
 use Rattle.printer.specs.declared.Filled.{Filled}
-use Rattle.printer.specs.declared.Printed.{Printed}
-use Rattle.printer.specs.declared.Printed.TheVariants.{Whole, Stopped}
+use Rattle.printer.specs.declared.Stopped.{Stopped}
+use Rattle.std.specs.Prelude.{Result, Ok, Err}
 use Rattle.printer.specs.Fills.{Fills, Filling, none, more, Prints}
 
 module _ {w : Ways} {s : List ℕ} {p : Player} {steps : ℕ} {l : List ℕ} {r : Filled} {m : List ℕ} (f : Fills w s p steps l r m) where
@@ -86,6 +86,6 @@ module _ {w : Ways} {s : List ℕ} {p : Player} {left len : ℕ} (k : Handed w s
   handed_within = omega (arith, k.counts, fills_within k.filling)
 
 -- ways that list a score alike hand on alike
-pub prints_same : (w x : Ways) (s : List ℕ) → listing_by w s ≡ listing_by x s → (r : Printed) → Prints w s r → Prints x s r
-prints_same w x s e (Whole len) p = p ∙ ap length e
-prints_same w x s e (Stopped len) p = subst (λ (text : List ℕ). len ≤ length text) e p
+pub prints_same : (w x : Ways) (s : List ℕ) → listing_by w s ≡ listing_by x s → (r : Result ℕ Stopped) → Prints w s r → Prints x s r
+prints_same w x s e (Ok len) p = p ∙ ap length e
+prints_same w x s e (Err stopped) p = subst (λ (text : List ℕ). stopped.len ≤ length text) e p

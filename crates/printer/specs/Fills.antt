@@ -1,13 +1,12 @@
 -- A score's listing in parts, each filled into one buffer and handed on: document 01, 'Score and program'.
-use Rattle.std.specs.Prelude.{ℕ, ◌+◌, ◌≤◌, ◌<◌, true, List, [], ◌++◌, ◌⊎◌, ◌≡◌, length, take}
+use Rattle.std.specs.Prelude.{ℕ, ◌+◌, ◌≤◌, ◌<◌, true, List, [], ◌++◌, ◌⊎◌, ◌≡◌, length, take, Result, Ok, Err}
 use Rattle.listing.specs.Text.{text_room}
 use Rattle.oscillator.specs.Ways.{Ways}
 use Rattle.player.specs.declared.Player.{Player}
 use Rattle.player.specs.Listing.{listing_by}
 use Rattle.player.specs.Steps.{start_of, is_nothing, most_steps, Made}
 use Rattle.printer.specs.declared.Filled.{Filled}
-use Rattle.printer.specs.declared.Printed.{Printed}
-use Rattle.printer.specs.declared.Printed.TheVariants.{Whole, Stopped}
+use Rattle.printer.specs.declared.Stopped.{Stopped}
 
 -- the room of the buffer
 abbrev pub room : ℕ
@@ -31,6 +30,6 @@ pub data Filling (w : Ways) (s : List ℕ) : Player → ℕ → List ℕ → Typ
       → Filling w s r.player r.left (text ++ take r.len m)
 
 -- the number of bytes handed on: all of the listing's, or no more than it has where a write failed
-abbrev pub Prints : Ways → List ℕ → Printed → Type 0
-Prints w s (Whole len) = len ≡ length (listing_by w s)
-Prints w s (Stopped len) = len ≤ length (listing_by w s)
+abbrev pub Prints : Ways → List ℕ → Result ℕ Stopped → Type 0
+Prints w s (Ok len) = len ≡ length (listing_by w s)
+Prints w s (Err stopped) = stopped.len ≤ length (listing_by w s)

@@ -20,80 +20,59 @@ struct Filled {
 fn fill(from: Player, s: &[u8], pack: &[u16], steps: u32, out: &mut [u8]) -> Filled
     ensures { Fills (over pack.now) s.now from steps out.old result out.new }
 {
-    let mut p = from;
+    let mut filled = Filled {
+        player: from,
+        left: steps,
+        len: 0,
+    };
     let mut line = [0u8; TEXT];
-    let mut at: usize = 0;
-    let mut left: u32 = steps;
-    while 0 < left {
-        let rest = p.rest;
-        if rest.is_nothing() {
-            return Filled {
-                player: p,
-                left,
-                len: at,
-            };
-        }
-        let room = out.len() - at;
-        if room < TEXT {
-            return Filled {
-                player: p,
-                left,
-                len: at,
-            };
-        }
-        let next = p.step(s, pack, &mut line);
-        let len = next.len;
-        listing::copy_into(out, at, &line[..len]);
-        at = at + len;
-        p = next.player;
-        left = left - 1;
+    // The steps left are counted by hand: `Fills` tells them.
+    while 0 < filled.left && !filled.player.rest.is_nothing() && TEXT <= out.len() - filled.len {
+        let next = filled.player.step(s, pack, &mut line);
+        listing::copy_into(out, filled.len, &line[..next.len]);
+        filled = Filled {
+            player: next.player,
+            left: filled.left - 1,
+            len: filled.len + next.len,
+        };
     }
-    Filled {
-        player: p,
-        left,
-        len: at,
-    }
+    filled
 }
 
-// The bytes handed on: all of a listing, or those before the part whose write failed.
-#[derive(Clone, Copy)]
-pub enum Printed {
-    Whole { len: usize },
-    Stopped { len: usize },
+// A write failed: the bytes handed on before its part.
+#[derive(Clone, Copy, Debug, PartialEq, Eq)]
+pub struct Stopped {
+    pub len: usize,
 }
 
 const ROOM: usize = 65536;
 
-// A write that fails ends the listing.
-pub fn print_listing(to: i32, s: &[u8], pack: &[u16]) -> Printed
+// The bytes handed on, all of the listing's; a write that fails ends it.
+pub fn print_listing(to: i32, s: &[u8], pack: &[u16]) -> Result<usize, Stopped>
     ensures { Prints (over pack.now) s.now result }
 {
     let mut out = [0u8; ROOM];
     let mut p = Player::start(s);
     let mut left: u32 = player::STEPS;
     let mut done: usize = 0;
-    while 0 < left {
-        let rest = p.rest;
-        if rest.is_nothing() {
-            return Printed::Whole { len: done };
-        }
+    while 0 < left && !p.rest.is_nothing() {
         let part = fill(p, s, pack, left, &mut out);
-        let len = part.len;
-        if !io::write_all(to, &out[..len]) {
-            return Printed::Stopped { len: done };
+        if !io::write_all(to, &out[..part.len]) {
+            return Err(Stopped { len: done });
         }
-        done = done + len;
         p = part.player;
         left = part.left;
+        done += part.len;
     }
-    Printed::Whole { len: done }
+    Ok(done)
 }
 
 // All that `replay` does with a score: it fills a pack, once, and prints the listing through it.
-pub fn replay(to: i32, s: &[u8]) -> Printed
+pub fn replay(to: i32, s: &[u8]) -> Result<usize, Stopped>
     ensures { Prints stepwise s.now result }
 {
     let mut pack = [0u16; pack::LENGTH];
-    pack::fill(&mut pack);
+    // A pack of `LENGTH` is not refused.
+    let _ = pack::fill(&mut pack);
     print_listing(to, s, &pack)
 }

@@ -2,13 +2,11 @@
 -- asked may be summed from the first step on. Assumes nothing.
 use Prim.Native.Nat.{ℕ, zero, suc, ◌+◌, ◌-◌, ◌%◌, ◌<◌, ◌≤◌}
 use native.Mathlib.Omega.{arith}
-use native.Mathlib.Decide.{dec_lt}
-use mathlib.Core.Path.{◌≡◌, refl, ap₂, sym, ◌∙◌}
-use mathlib.Core.Bool.{Bool, true, false, cond, false≢true}
-use borrow.Author.Tests.{ne_eqb, eqb-true, eqb-false}
+use mathlib.Core.Path.{◌≡◌, refl, ap₂, ◌∙◌}
+use mathlib.Core.Bool.{true, false}
+use borrow.Author.Tests.{ne_eqb}
 use lib.Dec.{eqb}
 use Rattle.laws.specs.Times.{times}
-use Rattle.laws.proofs.Cond.{either}
 use Rattle.laws.proofs.Times.{times_first}
 use Rattle.envelope.specs.Envelope.{divisor_for, down}
 use Rattle.release.specs.Release.{is_divisor, steps, level_after, in_force, divisor_after, asked}
@@ -22,11 +20,7 @@ down_lt v = omega arith
 
 pub steps_closed : (v : ℕ) → v < 256 → steps v ≡ (v + 255) % 256 + 1
 unfolding steps
-steps_closed v l = go (eqb v 0) refl
-  where
-    go : (b : Bool) → eqb v 0 ≡ b → cond b 256 v ≡ (v + 255) % 256 + 1
-    go true e = omega (arith, eqb-true v 0 e)
-    go false e = omega (arith, eqb-false v 0 e)
+steps_closed v l = grind arith
 
 pub level_closed : (v k : ℕ) → v < 256 → k ≤ 256 → level_after v k ≡ (v + 256 - k) % 256
 unfolding times down
@@ -49,40 +43,15 @@ steps_last v l q = omega (arith, steps_closed v l)
 -- ---- divisors
 
 pub divisor_le : (d : ℕ) → is_divisor d ≡ true → d ≤ 30
-divisor_le d h = go (dec_lt 30 d)
-  where
-    go : Dec (30 < d) → d ≤ 30
-    go (yes l) =
-        let e : is_divisor d ≡ false = simp (ne_eqb d 1 (omega arith), ne_eqb d 2 (omega arith), ne_eqb d 4 (omega arith), ne_eqb d 8 (omega arith), ne_eqb d 16 (omega arith), ne_eqb d 30 (omega arith)) in
-        absurd (false≢true (sym e ∙ h))
-    go (no l) = omega arith
-
-cond_le : (b : Bool) (x y n : ℕ) → x ≤ n → y ≤ n → cond b x y ≤ n
-cond_le b x y n = either (λ (m : ℕ). m ≤ n) b x y
-
-le_cond : (b : Bool) (x y n : ℕ) → n ≤ x → n ≤ y → n ≤ cond b x y
-le_cond b x y n = either (λ (m : ℕ). n ≤ m) b x y
+divisor_le d h = grind arith
 
 divisor_for_le : (v : ℕ) → divisor_for v ≤ 30
 unfolding divisor_for
-divisor_for_le v =
-    cond_le (eqb v 0xff) _ _ _ (omega arith)
-    (cond_le (eqb v 0x00) _ _ _ (omega arith)
-    (cond_le (eqb v 0x5d) _ _ _ (omega arith)
-    (cond_le (eqb v 0x36) _ _ _ (omega arith)
-    (cond_le (eqb v 0x1a) _ _ _ (omega arith)
-    (cond_le (eqb v 0x0e) _ _ _ (omega arith) (cond_le (eqb v 0x06) _ _ _ (omega arith) (omega arith)))))))
-
-chosen_range : (q d : ℕ) → q ≤ 30 → 1 ≤ d → d ≤ 30 → (1 ≤ cond (eqb q 0) d q) × (cond (eqb q 0) d q ≤ 30)
-chosen_range q d l a b = go (eqb q 0) refl
-  where
-    go : (t : Bool) → eqb q 0 ≡ t → (1 ≤ cond t d q) × (cond t d q ≤ 30)
-    go true e = (a, b)
-    go false e = (omega (arith, eqb-false q 0 e), l)
+divisor_for_le v = grind arith
 
 pub in_force_range : (d v : ℕ) → 1 ≤ d → d ≤ 30 → (1 ≤ in_force d v) × (in_force d v ≤ 30)
 unfolding in_force
-in_force_range d v a b = chosen_range (divisor_for v) _ (divisor_for_le v) (omega arith) (omega arith)
+in_force_range d v a b = (grind (arith, divisor_for_le), grind (arith, divisor_for_le))
 
 pub divisor_range : (v d k : ℕ) → 1 ≤ d → d ≤ 30 → (1 ≤ divisor_after v d k) × (divisor_after v d k ≤ 30)
 unfolding divisor_after
@@ -91,7 +60,7 @@ divisor_range v d (suc k) a b = let i = divisor_range v d k a b in in_force_rang
 
 pub lag_range : (d : ℕ) → (2 ≤ lag d) × (lag d ≤ 3)
 unfolding lag
-lag_range d = (le_cond (eqb d 1) _ _ _ (omega arith) (omega arith), cond_le (eqb d 1) _ _ _ (omega arith) (omega arith))
+lag_range d = (grind arith, grind arith)
 
 -- ---- from the first step on
 

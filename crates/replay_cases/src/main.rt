@@ -20,22 +20,18 @@ fn print_score(number: u64, score: &[u8], pack: &[u16]) {
     io::write_all(1, b"score ");
     io::print_decimal(1, number);
     io::write_all(1, b"\n");
-    printer::print_listing(1, score, pack);
+    let _ = printer::print_listing(1, score, pack);
 }
 
 fn replay(file: &mut File, pack: &[u16]) {
     let mut head = [0u8; 4];
     let mut score = [0u8; 65537];
-    let mut number: u64 = 0;
-    while number < 65536 {
-        let got = cases::read_full(file, &mut head);
-        if got < 4 {
+    for number in 0..65536 {
+        if cases::read_full(file, &mut head) < 4 {
             return;
         }
-        let length = words::u32_at(&head, 0) as usize;
-        let n = read_score(file, length, &mut score);
+        let n = read_score(file, words::u32_at(&head, 0) as usize, &mut score);
         print_score(number, &score[..n], pack);
-        number = number + 1;
     }
 }
 
@@ -44,6 +40,7 @@ fn main(rt: HostRuntime) {
         return;
     };
     let mut pack = [0u16; pack::LENGTH];
-    pack::fill(&mut pack);
+    // A pack of `LENGTH` is not refused.
+    let _ = pack::fill(&mut pack);
     replay(&mut file, &pack);
 }

@@ -1,6 +1,7 @@
 -- `field_at`, one law for each way that a field is read, and one over all of them; what a field that was read says of
 -- its place, and what a place says of the field that is read there. Assumes nothing.
-use Rattle.std.specs.Prelude.{Ok, Err}
+use Rattle.score.specs.declared.What.{What}
+use Rattle.std.specs.Prelude.{Option, Some, None, Ok, Err}
 use Prim.Native.Nat.{ℕ, ◌+◌, ◌≤◌, ◌<◌}
 use native.Mathlib.Omega.{arith}
 use mathlib.Core.Bool.{true, not, ◌||◌}
@@ -13,7 +14,7 @@ use Rattle.laws.proofs.Cond.{by_test}
 use Rattle.refusals.specs.declared.Refusal.TheVariants.{HeaderCut, UnknownTag, FieldLength, ValueCut}
 use Rattle.refusals.specs.declared.Refused.{Refused}
 use Rattle.score.specs.declared.Field.{Field}
-use Rattle.score.specs.Fields.{FieldRead, len_of, what_of, refuse, tag_at, said_at, len_at, value_at, after_at, field_at, is_end, is_access}
+use Rattle.score.specs.Fields.{FieldRead, len_of, what_of, refuse, tag_at, said_at, len_at, value_at, after_at, field_at, tag_of, known_what, is_end, is_access}
 use Rattle.score.specs.Given.{access_at, Whole}
 
 module _ (s : List ℕ) (at : ℕ) where
@@ -89,6 +90,17 @@ tags P write read levels watch end tag =
   where
     is : (n : ℕ) → eqb tag n ≡ true → P n → P tag
     is n t = subst P (sym (eqb-true tag n t))
+
+-- what a known tag asks for has that tag
+pub tag_back : (tag : ℕ) (v : List ℕ) → (len_of tag ≡ 0 → ⊥) → tag_of (what_of tag v) ≡ tag
+unfolding len_of what_of
+tag_back tag v = tags (λ (tag : ℕ). tag_of (what_of tag v) ≡ tag) refl refl refl refl refl tag
+
+-- what a tag asks for, where it is known
+pub known_is : (tag : ℕ) (v : List ℕ) {w : What} → known_what tag v ≡ Some w → (len_of tag ≡ 0 → ⊥) × (w ≡ what_of tag v)
+known_is tag v {w} =
+    by_test (λ (r : Option What). r ≡ Some w → (len_of tag ≡ 0 → ⊥) × (w ≡ what_of tag v)) (eqb (len_of tag) 0) None (Some (what_of tag v))
+    (λ _ e. cc) (λ k e. (eqb-false _ _ k, cc))
 
 module _ {s : List ℕ} {at : ℕ} (w : Whole s at) where
   pub whole_read : field_at s at ≡ Ok (value_at s at, after_at s at)

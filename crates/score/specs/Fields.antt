@@ -14,10 +14,6 @@ use Rattle.score.specs.declared.What.TheVariants.{Write, Read, Levels, Watch, En
 unfoldable pub len_of : ℕ → ℕ
 len_of tag = cond (eqb tag 0x01) 6 (cond (eqb tag 0x02) 5 (cond (eqb tag 0x03) 4 (cond (eqb tag 0x04) 4 (cond (eqb tag 0x7f) 4 0))))
 
--- the same, where the tag is known
-abbrev pub known_len : ℕ → Option ℕ
-known_len tag = cond (eqb (len_of tag) 0) None (Some (len_of tag))
-
 abbrev pub stamped : ℕ → What → Field
 stamped stamp what = record { stamp = stamp; what = what }
 
@@ -26,6 +22,10 @@ unfoldable pub what_of : ℕ → List ℕ → What
 what_of tag v =
     cond (eqb tag 0x01) (Write (number_at 1 v 4) (number_at 1 v 5))
     (cond (eqb tag 0x02) (Read (number_at 1 v 4)) (cond (eqb tag 0x03) Levels (cond (eqb tag 0x04) Watch End)))
+
+-- what a tag asks for, where it is known
+abbrev pub known_what : ℕ → List ℕ → Option What
+known_what tag v = cond (eqb (len_of tag) 0) None (Some (what_of tag v))
 
 abbrev pub value_of : ℕ → List ℕ → Field
 value_of tag v = stamped (number_at 4 v 0) (what_of tag v)

@@ -4,7 +4,7 @@
 
 ghost use Rattle.std.specs.Prelude.{◌≡◌};
 ghost use Rattle.refusals.specs.Refusals.{tells};
-ghost use Rattle.score.specs.Fields.{known_len, what_of, value_of, field_at, tag_of, is_end, is_access};
+ghost use Rattle.score.specs.Fields.{len_of, known_what, field_at, tag_of, is_end, is_access};
 ghost use Rattle.score.specs.Stamps.{unstamped, used, admit};
 ghost use Rattle.score.specs.Scores.{checked};
 ghost use Rattle.score.specs.Given.{Judged};
@@ -35,6 +35,18 @@ impl What {
         }
     }
 
+    // The length of a value that asks for it.
+    #[tactic(auto, unfolding(crate::specs::Fields::len_of))]
+    pub fn length(self) -> u8
+        ensures { result ≡ len_of (tag_of self) }
+    {
+        match self {
+            What::Write { .. } => 6,
+            What::Read { .. } => 5,
+            What::Levels | What::Watch | What::End => 4,
+        }
+    }
+
     pub fn is_end(self) -> bool
         ensures { result ≡ is_end self }
     {
@@ -55,50 +67,28 @@ pub struct Field {
     pub what: What,
 }
 
-// The length of a known tag's value.
-#[tactic(auto, unfolding(crate::specs::Fields::len_of))]
-fn len_of(tag: u8) -> Option<usize>
-    ensures { result ≡ known_len tag }
+// What a tag asks for, if it is known, its value standing first in v.
+#[tactic(auto, unfolding(crate::specs::Fields::len_of, crate::specs::Fields::what_of))]
+fn what_of(tag: u8, v: &[u8]) -> Option<What>
+    ensures { result ≡ known_what tag v.now }
 {
     match tag {
-        0x01 => Some(6),
-        0x02 => Some(5),
-        0x03 | 0x04 | 0x7f => Some(4),
+        0x01 => Some(What::Write {
+            address: words::u8_at(v, 4),
+            value: words::u8_at(v, 5),
+        }),
+        0x02 => Some(What::Read {
+            address: words::u8_at(v, 4),
+        }),
+        0x03 => Some(What::Levels),
+        0x04 => Some(What::Watch),
+        0x7f => Some(What::End),
         _ => None,
     }
 }
 
-// What a known tag asks for, its value standing first in v.
-#[tactic(auto, unfolding(crate::specs::Fields::what_of))]
-fn what_of(tag: u8, v: &[u8]) -> What
-    ensures { result ≡ what_of tag v.now }
-{
-    match tag {
-        0x01 => What::Write {
-            address: words::u8_at(v, 4),
-            value: words::u8_at(v, 5),
-        },
-        0x02 => What::Read {
-            address: words::u8_at(v, 4),
-        },
-        0x03 => What::Levels,
-        0x04 => What::Watch,
-        _ => What::End,
-    }
-}
-
-// The field of a known tag, whose value stands first in v.
-fn value_of(tag: u8, v: &[u8]) -> Field
-    ensures { result ≡ value_of tag v.now }
-{
-    Field {
-        stamp: words::u32_at(v, 0),
-        what: what_of(tag, v),
-    }
-}
-
 // What stands at a place of a score, and the place after it. A cut field is refused at the first missing byte.
-#[tactic(auto, unfolding(crate::specs::Fields::field_at))]
+#[tactic(auto, using(crate::proofs::Fields::tag_back), unfolding(crate::specs::Fields::field_at))]
 pub fn field_at(s: &[u8], at: usize) -> Result<(Field, usize), Refused>
     ensures { result ≡ field_at s.now at }
 {
@@ -107,18 +97,20 @@ pub fn field_at(s: &[u8], at: usize) -> Result<(Field, usize), Refused>
     if left < 3 {
         return Err(Refusal::HeaderCut.at(end));
     }
-    let tag = words::u8_at(s, at);
-    let Some(n) = len_of(tag) else {
+    let from = at + 3;
+    let value = &s[from..];
+    let Some(what) = what_of(words::u8_at(s, at), value) else {
         return Err(Refusal::UnknownTag.at(at));
     };
+    let n = what.length() as usize;
     if words::u16_at(s, at + 1) as usize != n {
         return Err(Refusal::FieldLength.at(at));
     }
     if left - 3 < n {
         return Err(Refusal::ValueCut.at(end));
     }
-    let from = at + 3;
-    Ok((value_of(tag, &s[from..]), from + n))
+    let stamp = words::u32_at(value, 0);
+    Ok((Field { stamp, what }, from + n))
 }
 
 // The stamp of the field before, and the first that is free for an access: the one after the access before. Each is 0
@@ -168,7 +160,8 @@ pub fn admit(o: Order, f: Field) -> Result<Order, Refusal>
     })
 }
 
-// The clocks of the whole score, before the first clock: the first refusal ends the walk.
+// The clocks of the whole score, before the first clock: the first refusal ends the walk (a `loop` that breaks with a
+// value, the form that document 01 names for it).
 pub fn check_score(s: &[u8]) -> Result<u32, Refused>
     ensures { (result ≡ checked s.now) × Judged s.now (tells result) }
 {

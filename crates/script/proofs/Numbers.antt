@@ -8,7 +8,7 @@ use mathlib.Core.Bool.{Bool, true, false, cond}
 use mathlib.Core.List.{List, [], ◌∷◌, ◌++◌, append_assoc}
 use mathlib.Core.Path.{◌≡◌, refl, ap, sym, subst₂, ◌∙◌}
 use lib.Dec.{ltb, leb, eqb}
-use lib.ListN.{length, get_or, drop, length-append, get_or-eq_default}
+use lib.ListN.{length, get_or, drop, length-append}
 use lib.Seq.{drop-drop, get_or-drop}
 use borrow.Author.Tests.{lt-ltb, le-ltb, le-leb, eq-eqb, ne_eqb, ltb-true, ltb-false, leb-true, eqb-false}
 use Rattle.laws.proofs.Bools.{and_left, and_right}
@@ -40,17 +40,6 @@ digit_none b = go (is_digit b) refl
     go : (t : Bool) → is_digit b ≡ t → cond t (Some (b - 48)) None ≡ None → is_digit b ≡ false
     go true e s = cc
     go false e s = e
-
--- a digit stands within the bytes
-pub digit_within : (s : List ℕ) (i : ℕ) → is_digit (get_or s i 0) ≡ true → i < length s
-digit_within s i e = go (ltb i (length s)) refl
-  where
-    go : (b : Bool) → ltb i (length s) ≡ b → i < length s
-    go true t = ltb-true i (length s) t
-    go false t =
-        let past : get_or s i 0 ≡ 0 = get_or-eq_default s 0 {n = i} (ltb-false i (length s) t) in
-        let k : 48 ≤ get_or s i 0 = digit_from (get_or s i 0) e in
-        absurd (omega arith)
 
 -- ---- one digit more
 

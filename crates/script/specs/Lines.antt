@@ -1,5 +1,5 @@
 -- The lines of a text, and the field whose line one is.
-use Rattle.std.specs.Prelude.{ℕ, ◌+◌, ◌^◌, ◌<◌, Bool, true, cond, List, ◌++◌, ◌≡◌, ◌==◌, ltb, leb, eqb, length, get_or, drop, Option, Some, None}
+use Rattle.std.specs.Prelude.{ℕ, ◌+◌, ◌^◌, ◌<◌, cond, List, ◌++◌, ◌≡◌, ◌==◌, ltb, leb, eqb, length, get_or, drop, Option, Some, None}
 use Rattle.std.specs.List.{position_or_len}
 use Rattle.score.specs.declared.Field.{Field}
 use Rattle.score.specs.declared.What.{What}

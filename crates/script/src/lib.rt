@@ -1,7 +1,7 @@
 // The text of a score's fields, read back: decimal numbers, the end of a line, the field of a line.
 #![tactic(auto)]
 
-ghost use Rattle.std.specs.Prelude.{◌≡◌, ◌↔◌, IsTrue, get_or, IfSome, ◌≤◌};
+ghost use Rattle.std.specs.Prelude.{◌≡◌, ◌↔◌, IsTrue, get_or};
 ghost use Rattle.listing.specs.FieldText.{field_text};
 ghost use Rattle.script.specs.Numbers.{digit, number_at};
 ghost use Rattle.script.specs.Lines.{line_end, number_after, write_in, read_in, bare_in, meant, Reads};
@@ -150,7 +150,7 @@ pub fn field_of(line: &[u8]) -> Option<Field>
     if is_text(line, f) { Some(f) } else { None }
 }
 
-// A refusal's line alone, for a program that prints no listing.
+// A refusal's line alone, for a program that prints no listing. By `io`: the signature has no handle to print with.
 pub fn print_refused(to: i32, r: Refused)
     ensures { result ≡ tt }
 {

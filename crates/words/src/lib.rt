@@ -8,7 +8,7 @@ ghost use Rattle.words.specs.Words.{little, number_at};
 fn bytes_at<const N: usize>(s: &[u8], at: usize) -> Option<[u8; N]>
     ensures { MatchOption result (length s.now < at + N) (λ bytes. (at + N ≤ length s.now) × (bytes ≡ slice_range s.now at (at + N))) }
 {
-    s.get(at..)?.get(..N)?.try_into().ok()
+    s.get(at..at.checked_add(N)?)?.try_into().ok()
 }
 
 pub fn u8_at(s: &[u8], at: usize) -> u8

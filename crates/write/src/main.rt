@@ -23,6 +23,7 @@ enum Failure {
 }
 
 // The length of the score that a text makes, which stands first in the buffer.
+#[tactic(auto, using(script::proofs::Ends::end_bounds, writer::proofs::Answers::buffered_length))]
 fn write_text(text: &[u8], out: &mut [u8]) -> Result<usize, Failure> {
     let mut w = Writer::new();
     let mut at: usize = 0;

@@ -27,12 +27,13 @@ const MOST_FIELD: usize = 9;
 fn field_bytes<'a>(space: &'a mut [u8; MOST_FIELD], f: Field) -> &'a [u8]
     ensures { result.now ≡ written f }
 {
-    let (n, first, second) = match f.what {
-        What::Write { address, value } => (6, address, value),
-        What::Read { address } => (5, address, 0),
-        What::Levels | What::Watch | What::End => (4, 0, 0),
-    };
+    let n = f.what.length();
     let [a, b, c, d] = f.stamp.to_le_bytes();
+    let (first, second) = match f.what {
+        What::Write { address, value } => (address, value),
+        What::Read { address } => (address, 0),
+        What::Levels | What::Watch | What::End => (0, 0),
+    };
     *space = [f.what.tag(), n, 0, a, b, c, d, first, second];
     &space[..3 + n as usize]
 }

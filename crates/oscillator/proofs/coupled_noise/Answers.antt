@@ -7,6 +7,6 @@ pub returns-then-couples : goal.returns-then-couples
 unfolding coupled_noise
 returns-then-couples c = simp (sym c.couples.ensures ∙ c.if-couples.true, c.load_pulse_coupling.ensures)
 
-pub returns : goal.returns
+pub returns-else-couples : goal.returns-else-couples
 unfolding coupled_noise
-returns c = simp (sym c.couples.ensures ∙ c.if-couples.false)
+returns-else-couples c = simp (sym c.couples.ensures ∙ c.if-couples.false)

@@ -4,4 +4,4 @@ use Rattle.oscillator.proofs.latched_noise.Goals as goal
 
 pub returns : goal.returns
 unfolding latched_noise
-returns c = simp (c.pulled_noise.ensures, c.coupled_noise-coupled.ensures)
+returns c = simp (c.pulled_noise.ensures, c.coupled_noise.ensures)

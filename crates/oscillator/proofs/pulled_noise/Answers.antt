@@ -7,6 +7,6 @@ pub returns-then-pulls_down : goal.returns-then-pulls_down
 unfolding pulled_noise
 returns-then-pulls_down c = simp (sym c.pulls_down.ensures ∙ c.if-pulls_down.true, c.pull_down.ensures)
 
-pub returns : goal.returns
+pub returns-else-pulls_down : goal.returns-else-pulls_down
 unfolding pulled_noise
-returns c = simp (sym c.pulls_down.ensures ∙ c.if-pulls_down.false)
+returns-else-pulls_down c = simp (sym c.pulls_down.ensures ∙ c.if-pulls_down.false)

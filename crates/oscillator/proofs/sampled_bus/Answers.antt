@@ -7,11 +7,11 @@ use Rattle.oscillator.proofs.sampled_bus.Goals as goal
 pub returns-then-is_off : goal.returns-then-is_off
 unfolding sampled_bus_by
 returns-then-is_off c =
-    let s = ap (λ (x : WaveformSelect). x.raw) c.selected-sel.ensures in
+    let s = ap (λ (x : WaveformSelect). x.raw) c.selected.ensures in
     simp (sym s, sym c.is_off.ensures ∙ c.if-is_off.true, c.sample.ensures)
 
-pub returns : goal.returns
+pub returns-else-is_off : goal.returns-else-is_off
 unfolding sampled_bus_by
-returns c =
-    let s = ap (λ (x : WaveformSelect). x.raw) c.selected-sel.ensures in
+returns-else-is_off c =
+    let s = ap (λ (x : WaveformSelect). x.raw) c.selected.ensures in
     simp (sym s, sym c.is_off.ensures ∙ c.if-is_off.false)

@@ -1,19 +1,19 @@
--- `tested_noise` enters test or leaves it, the exit's load first, where the bit changes; else the register stays.
+-- `tested_noise` leaves test with its load, or enters it, or leaves the register as it is.
 use Rattle.oscillator.specs.Oscillator.{tested_noise}
 use Rattle.oscillator.proofs.tested_noise.Goals as goal
 
-pub returns-then-new : goal.returns-then-new
+pub returns-in-true-false : goal.returns-in-true-false
 unfolding tested_noise
-returns-then-new c = simp (c.if-old.true, c.if-new.true)
+returns-in-true-false c = simp (c.in-true-false.is-0, c.in-true-false.is-1, c.leave_test.ensures, c.exit_loaded.ensures)
 
-pub returns-then-old : goal.returns-then-old
+pub returns-in-false-true : goal.returns-in-false-true
 unfolding tested_noise
-returns-then-old c = simp (c.if-old.true, c.if-new.false, c.leave_test.ensures, c.exit_loaded-loaded.ensures)
+returns-in-false-true c = simp (c.in-false-true.is-0, c.in-false-true.is-1, c.enter_test.ensures)
 
-pub returns-then-new-2 : goal.returns-then-new-2
+pub returns-in_default : goal.returns-in_default
 unfolding tested_noise
-returns-then-new-2 c = simp (c.if-old.false, c.if-new-2.true, c.enter_test.ensures)
+returns-in_default c = simp (c.in_default.is-0, c.in_default.is-1)
 
-pub returns : goal.returns
+pub returns-in_default-2 : goal.returns-in_default-2
 unfolding tested_noise
-returns c = simp (c.if-old.false, c.if-new-2.false)
+returns-in_default-2 c = simp (c.in_default.is-0, c.in_default.is-1)

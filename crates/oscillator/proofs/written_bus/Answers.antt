@@ -11,6 +11,6 @@ pub returns-then-new_wave-eq0 : goal.returns-then-new_wave-eq0
 unfolding written_bus
 returns-then-new_wave-eq0 c = simp (ne_eqb _ _ c.if-old_wave-new_wave.false, eq-eqb _ _ c.if-new_wave-eq0.true, c.capture.ensures)
 
-pub returns : goal.returns
+pub returns-else-new_wave-eq0 : goal.returns-else-new_wave-eq0
 unfolding written_bus
-returns c = simp (ne_eqb _ _ c.if-old_wave-new_wave.false, ne_eqb _ _ c.if-new_wave-eq0.false, c.reset.ensures)
+returns-else-new_wave-eq0 c = simp (ne_eqb _ _ c.if-old_wave-new_wave.false, ne_eqb _ _ c.if-new_wave-eq0.false, c.reset.ensures)

@@ -5,8 +5,8 @@ use Rattle.pack.specs.Pack.{over}
 use Rattle.player.proofs.Fades.{Watches}
 use Rattle.player.proofs.run_to.Given as goal
 
-abbrev pub invariant-loop-p : goal.invariant-loop-p
-invariant-loop-p l = Watches (over l.pack) l.stamp l.initial.p l.initial.text l.p l.at l.text
+abbrev pub invariant-loop-ran : goal.invariant-loop-ran
+invariant-loop-ran l = Watches (over l.pack) l.stamp l.initial.ran.panel l.initial.text l.ran.panel l.ran.len l.text
 
-abbrev pub decreases-loop-p : goal.decreases-loop-p
-decreases-loop-p l = l.stamp - l.p.clock
+abbrev pub decreases-loop-ran : goal.decreases-loop-ran
+decreases-loop-ran l = l.stamp - l.ran.panel.clock

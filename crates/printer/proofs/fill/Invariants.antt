@@ -7,9 +7,9 @@ use Rattle.pack.specs.Pack.{over}
 use Rattle.player.specs.Steps.{Made}
 use Rattle.printer.proofs.fill.Given as goal
 
-abbrev pub invariant-loop-left : goal.invariant-loop-left
-invariant-loop-left l =
-    (length l.line ≡ text_room) × (length l.out ≡ length l.initial.out) × (l.at ≤ length l.out) × Made (over l.pack) l.s l.initial.p l.steps l.initial.out l.p l.left l.at l.out
+abbrev pub invariant-loop-filled : goal.invariant-loop-filled
+invariant-loop-filled l =
+    (length l.line ≡ text_room) × (length l.out ≡ length l.initial.out) × (l.filled.len ≤ length l.out) × Made (over l.pack) l.s l.fn.from l.steps l.initial.out l.filled.player l.filled.left l.filled.len l.out
 
-abbrev pub decreases-loop-left : goal.decreases-loop-left
-decreases-loop-left l = l.left
+abbrev pub decreases-loop-filled : goal.decreases-loop-filled
+decreases-loop-filled l = l.filled.left

@@ -8,5 +8,5 @@ use Rattle.oscillator.proofs.Control.loaded_code.Goals as goal
 pub returns : goal.returns
 unfolding loaded_code_by
 returns c =
-    let s = ap (λ (x : WaveformSelect). x.raw) c.selected-sel.ensures in
+    let s = ap (λ (x : WaveformSelect). x.raw) c.selected.ensures in
     and_mask c.settled_code.result 12 ∙ simp (sym s, c.settled_code.ensures)

@@ -1,21 +1,22 @@
--- `Control::pulls_down` is true exactly where noise is driven, and with pulse alone only in the shift's aperture.
+-- `Control::pulls_down` is true exactly for driven noise, with pulse alone only in the shift's aperture.
 use Rattle.std.proofs.Common.{sym, ap, ◌∙◌, eq-eqb, ne_eqb}
 use Rattle.oscillator.specs.Oscillator.{pulls_down}
 use Rattle.oscillator.specs.declared.WaveformSelect.{WaveformSelect}
 use Rattle.oscillator.proofs.Control.pulls_down.Goals as goal
 
-pub returns-then-sel-eq12 : goal.returns-then-sel-eq12
+pub returns-then-sel-ne12 : goal.returns-then-sel-ne12
 unfolding pulls_down
-returns-then-sel-eq12 c =
+returns-then-sel-ne12 c =
     let s = ap (λ (x : WaveformSelect). x.raw) c.selected-sel.ensures in
-    simp (sym c.noise_is_driven.ensures ∙ c.if-noise_is_driven.true, sym s, eq-eqb _ _ c.if-sel-eq12.true, c.pulse_load_aperture.ensures)
+    simp (sym c.noise_is_driven.ensures ∙ c.if-noise_is_driven.true, sym s, ne_eqb _ _ c.if-sel-ne12.true)
 
-pub returns-then-noise_is_driven : goal.returns-then-noise_is_driven
+pub returns-else-sel-ne12 : goal.returns-else-sel-ne12
 unfolding pulls_down
-returns-then-noise_is_driven c =
+returns-else-sel-ne12 c =
     let s = ap (λ (x : WaveformSelect). x.raw) c.selected-sel.ensures in
-    simp (sym c.noise_is_driven.ensures ∙ c.if-noise_is_driven.true, sym s, ne_eqb _ _ c.if-sel-eq12.false)
+    simp (sym c.noise_is_driven.ensures ∙ c.if-noise_is_driven.true, sym s, eq-eqb _ _ c.if-sel-ne12.false, c.pulse_load_aperture.ensures)
 
-pub returns : goal.returns
+pub returns-else-noise_is_driven : goal.returns-else-noise_is_driven
 unfolding pulls_down
-returns c = simp (sym c.noise_is_driven.ensures ∙ c.if-noise_is_driven.false)
+returns-else-noise_is_driven c =
+    c.if-noise_is_driven.false ∙ simp (sym c.noise_is_driven.ensures ∙ c.if-noise_is_driven.false)

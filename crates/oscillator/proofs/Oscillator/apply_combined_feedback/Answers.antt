@@ -4,4 +4,4 @@ use Rattle.oscillator.proofs.Oscillator.apply_combined_feedback.Goals as goal
 
 pub returns : goal.returns
 unfolding fed_back
-returns c = simp c.fed_back-tone.ensures
+returns c = simp c.fed_back-self.ensures

@@ -4,4 +4,4 @@ use Rattle.oscillator.proofs.Oscillator.at_phase.Goals as goal
 
 pub returns : goal.returns
 unfolding fresh
-returns c = simp (c.new-noise.ensures, c.new-bus.ensures)
+returns c = simp (c.new.ensures, c.new-2.ensures)

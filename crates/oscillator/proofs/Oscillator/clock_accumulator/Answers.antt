@@ -4,4 +4,4 @@ use Rattle.oscillator.proofs.Oscillator.clock_accumulator.Goals as goal
 
 pub returns : goal.returns
 unfolding clocked_by
-returns c = simp (c.step-noise.ensures, c.rising-rising.ensures, c.clocked-tone.ensures)
+returns c = simp (c.step-self.ensures, c.rising-rising.ensures, c.clocked-self.ensures)

@@ -4,4 +4,4 @@ use Rattle.oscillator.proofs.Oscillator.evaluate_output.Goals as goal
 
 pub returns : goal.returns
 unfolding evaluated_by
-returns c = simp (c.code-code.ensures, c.compared-tone.ensures, c.sampled_bus-bus.ensures)
+returns c = simp (c.code-code.ensures, c.compared-self.ensures, c.sampled_bus-self.ensures)

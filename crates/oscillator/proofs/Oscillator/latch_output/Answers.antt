@@ -8,4 +8,4 @@ pub returns : goal.returns
 unfolding latched_code
 returns c =
     let m : bit_and c.args.output 0xfff ≡ c.args.output % 4096 = and_mask c.args.output 12 in
-    simp (c.latched-tone.ensures, c.latched_noise-noise.ensures, m)
+    simp (c.latched-self.ensures, c.latched_noise-self.ensures, m)

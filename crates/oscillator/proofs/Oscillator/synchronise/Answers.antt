@@ -4,4 +4,4 @@ use Rattle.oscillator.proofs.Oscillator.synchronise.Goals as goal
 
 pub returns : goal.returns
 unfolding synchronised
-returns c = simp c.reset_phase-tone.ensures
+returns c = simp c.reset_phase-self.ensures

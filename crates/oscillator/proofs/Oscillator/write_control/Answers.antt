@@ -4,4 +4,4 @@ use Rattle.oscillator.proofs.Oscillator.write_control.Goals as goal
 
 pub returns : goal.returns
 unfolding written
-returns c = simp (c.tested_noise-noise.ensures, c.tested-tone.ensures, c.written_bus-bus.ensures, c.written-control.ensures)
+returns c = simp (c.tested_noise-self.ensures, c.tested-self.ensures, c.written_bus-self.ensures, c.written-control.ensures)

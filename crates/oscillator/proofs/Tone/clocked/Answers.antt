@@ -14,7 +14,8 @@ unfolding clocked_tone
 returns c =
     let a = c.args in
     let n = (a.self.accumulator + a.control.frequency) % 2 ^ 24 in
-    let e : bit_and c.wrapping_add_u32-new_acc.result 0xffffff ≡ n = and_mask c.wrapping_add_u32-new_acc.result 24 ∙ omega arith in
+    let sum = (a.self.accumulator + a.control.frequency) % 2 ^ 32 in
+    let e : bit_and sum 0xffffff ≡ n = and_mask sum 24 ∙ omega arith in
     let x = rising a.self.accumulator n in
     let b : eqb (bit_and x 0x800000) 0 ≡ eqb (x / 2 ^ 23 % 2) 0 = and_bit x 23 in
     simp (c.if-control.false, c.rising.ensures, e, b)

@@ -8,6 +8,6 @@ pub returns-then-phase-control : goal.returns-then-phase-control
 unfolding compared_tone
 returns-then-phase-control c = simp (sym c.phase.ensures, le-leb _ _ c.if-phase-control.true)
 
-pub returns : goal.returns
+pub returns-else-phase-control : goal.returns-else-phase-control
 unfolding compared_tone
-returns c = simp (sym c.phase.ensures, lt-leb _ _ c.if-phase-control.false)
+returns-else-phase-control c = simp (sym c.phase.ensures, lt-leb _ _ c.if-phase-control.false)

@@ -10,6 +10,6 @@ returns-then-feeds_back c =
     let m : bit_and c.args.self.accumulator 0x7fffff ≡ c.args.self.accumulator % 2 ^ 23 = and_mask c.args.self.accumulator 23 in
     simp (sym c.feeds_back.ensures ∙ c.if-feeds_back.true, m)
 
-pub returns : goal.returns
+pub returns-else-feeds_back : goal.returns-else-feeds_back
 unfolding fed_back_tone
-returns c = simp (sym c.feeds_back.ensures ∙ c.if-feeds_back.false)
+returns-else-feeds_back c = simp (sym c.feeds_back.ensures ∙ c.if-feeds_back.false)

@@ -13,12 +13,12 @@ pub overflow_sub-result : goal.overflow_sub-result
 overflow_sub-result c =
     let a = c.args in
     let w = over a.pack.now in
-    let there = leapt_there w a.stamp a.self c.to_expiry.ensures c.leap_end-end.ensures c.run_to-panel.ensures in
+    let there = leapt_there w a.stamp a.self c.to_expiry.ensures (omega (arith, c.saturating_sub.ensures, c.min-leap.ensures)) c.run_to-panel.ensures in
     omega (arith, ap (λ (p : Panel). (bus_of p).value) there, leapt_le w a.stamp a.self)
 
 pub returns : goal.returns
 unfolding leapt_by
 returns c =
     let a = c.args in
-    let there = leapt_there _ a.stamp a.self c.to_expiry.ensures c.leap_end-end.ensures c.run_to-panel.ensures in
+    let there = leapt_there _ a.stamp a.self c.to_expiry.ensures (omega (arith, c.saturating_sub.ensures, c.min-leap.ensures)) c.run_to-panel.ensures in
     ap (λ (p : Panel). record { panel = p; lost = (bus_of a.self).value - (bus_of p).value }) there

@@ -7,14 +7,14 @@ use Rattle.panel.specs.Panel.{ran_to_by}
 use Rattle.panel.proofs.Leaps.{ran_none}
 use Rattle.panel.proofs.Panel.run_to.Goals as goal
 
-pub returns-then-clock-stamp : goal.returns-then-clock-stamp
+pub returns-then-self-stamp : goal.returns-then-self-stamp
 unfolding ran_to_by
-returns-then-clock-stamp c =
+returns-then-self-stamp c =
     let a = c.args in
     let e : a.self.clock + (a.stamp - a.self.clock) ≡ a.stamp = omega arith in
-    rw e (simp c.run_over-chip.ensures)
+    rw e (simp c.run_over-self.ensures)
 
-pub returns : goal.returns
-returns c =
+pub returns-else-self-stamp : goal.returns-else-self-stamp
+returns-else-self-stamp c =
     let a = c.args in
     sym (ran_none _ a.self a.stamp (omega arith))

@@ -16,14 +16,12 @@ returns-in-Refusal c =
     let a = c.args in
     rw (turn_refusal _ a.s.now a.self c.in-Refusal.is) c.refuse.ensures
 
-pub returns-in-Refused : goal.returns-in-Refused
-returns-in-Refused c =
+pub returns-in-Ok : goal.returns-in-Ok
+returns-in-Ok c =
     let a = c.args in
-    let read = sym c.in-Refused.ensures in
-    rw (turn_read _ a.s.now a.self c.in-Fields.is read) c.refuse-in-Refused.ensures
+    rw (turn_read _ a.s.now a.self c.in-Fields.is (sym c.in-Ok.ensures)) c.play_field.ensures
 
-pub returns-in-Got : goal.returns-in-Got
-returns-in-Got c =
+pub returns-in-Err : goal.returns-in-Err
+returns-in-Err c =
     let a = c.args in
-    let read = sym c.in-Got.ensures in
-    rw (turn_read _ a.s.now a.self c.in-Fields.is read) c.play_field.ensures
+    rw (turn_read _ a.s.now a.self c.in-Fields.is (sym c.in-Err.ensures)) c.refuse-in-Err.ensures
