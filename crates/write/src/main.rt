@@ -39,17 +39,19 @@ fn write_text(text: &[u8], out: &mut [u8]) -> Result<usize, Failure> {
     Ok(w.at)
 }
 
-fn print_score(rt: &HostRuntime, text: &[u8], out: &mut [u8]) -> std::io::Result<()> {
+// A write that fails is not told.
+fn print_score(rt: &HostRuntime, text: &[u8], out: &mut [u8]) {
     match write_text(text, out) {
         Ok(n) => {
             if let Some(score) = out.get(..n) {
                 io::write_all(1, score);
             }
         }
-        Err(Failure::NoField { line }) => println!(rt; "line {line} is no field")?,
+        Err(Failure::NoField { line }) => {
+            let _ = println!(rt; "line {line} is no field");
+        }
         Err(Failure::Refused(r)) => script::print_refused(1, r),
     }
-    Ok(())
 }
 
 // How long a buffer the words after the program's name ask for. Of words that are unclear, or no text, None.
@@ -77,10 +79,12 @@ fn arguments(rt: &HostRuntime) -> std::io::Result<Option<usize>> {
 
 fn main(rt: HostRuntime) -> std::io::Result<()> {
     let Some(room) = arguments(&rt)? else {
-        return eprintln!(rt; "usage: write [SIZE] < TEXT");
+        let _ = eprintln!(rt; "usage: write [SIZE] < TEXT");
+        return Ok(());
     };
     let mut text = [0u8; MOST_TEXT];
     let mut out = [0u8; MOST];
     let n = io::read_full(0, &mut text);
-    print_score(&rt, &text[..n], &mut out[..room.min(MOST)])
+    print_score(&rt, &text[..n], &mut out[..room.min(MOST)]);
+    Ok(())
 }
