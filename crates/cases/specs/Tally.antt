@@ -12,9 +12,8 @@ abbrev pub counted : Tally → Bool → Tally
 counted t true = record t { compared = (t.compared + 1) % 2 ^ 32 }
 counted t false =
     let compared = (t.compared + 1) % 2 ^ 32 in
-    let differ = (t.differ + 1) % 2 ^ 32 in
     record {
       compared = compared;
-      differ = differ;
-      first = cond (differ == 0) None (cond (differ == 1) (Some compared) t.first);
+      differ = (t.differ + 1) % 2 ^ 32;
+      first = cond (t.differ == 0) (Some compared) t.first;
     }

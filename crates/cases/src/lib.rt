@@ -37,12 +37,10 @@ impl Tally {
     {
         self.compared = self.compared.wrapping_add(1);
         if !same {
+            if self.differ == 0 {
+                self.first = Some(self.compared);
+            }
             self.differ = self.differ.wrapping_add(1);
-            self.first = match self.differ {
-                0 => None,
-                1 => Some(self.compared),
-                _ => self.first,
-            };
         }
         self
     }
@@ -56,8 +54,8 @@ impl fmt::Display for Tally {
             self.compared, self.differ
         )?;
         match self.first {
-            Some(first) => write!(f, ", the first is number {first}"),
-            None => Ok(()),
+            Some(first) if 0 < self.differ => write!(f, ", the first is number {first}"),
+            _ => Ok(()),
         }
     }
 }

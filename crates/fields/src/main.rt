@@ -4,7 +4,7 @@
 
 use listing::TEXT;
 
-// A write that fails ends the text.
+// A write that fails ends the text. By `io`: the line is bytes, and `println!` prints text.
 #[tactic(auto, using(score::proofs::Fields::stands))]
 fn print_fields(s: &[u8]) {
     let mut line = [0u8; TEXT];

@@ -160,7 +160,8 @@ pub fn admit(o: Order, f: Field) -> Result<Order, Refusal>
     })
 }
 
-// The clocks of the whole score, before the first clock: the first refusal ends the walk.
+// The clocks of the whole score, before the first clock: the first refusal ends the walk (a `loop` that breaks with a
+// value, the form that document 01 names for it).
 pub fn check_score(s: &[u8]) -> Result<u32, Refused>
     ensures { (result ≡ checked s.now) × Judged s.now (tells result) }
 {

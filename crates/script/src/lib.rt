@@ -150,7 +150,7 @@ pub fn field_of(line: &[u8]) -> Option<Field>
     if is_text(line, f) { Some(f) } else { None }
 }
 
-// A refusal's line alone, for a program that prints no listing.
+// A refusal's line alone, for a program that prints no listing. By `io`: the signature has no handle to print with.
 pub fn print_refused(to: i32, r: Refused)
     ensures { result ≡ tt }
 {

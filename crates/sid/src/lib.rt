@@ -108,8 +108,7 @@ impl Voice {
 }
 
 // The conditions of the Rust's `tick`, with the voice's source and the source's source as they were before any
-// synchronisation.
-#[tactic(auto, unfolding(crate::specs::Sid::syncs))]
+// synchronisation. One `if` in the other: as one condition joined by `&&` it was slower in a loop with sync enabled.
 pub fn synced(
     tone: Tone,
     control: Control,
@@ -119,14 +118,19 @@ pub fn synced(
 ) -> Tone
     ensures { result ≡ cond (syncs source.msb_rising control.sync_enabled source_control.sync_enabled before.msb_rising) (reset_phase tone) tone }
 {
-    if source.msb_rising
-        && control.sync_enabled
-        && !(source_control.sync_enabled && before.msb_rising)
-    {
-        tone.reset_phase()
-    } else {
-        tone
+    if source.msb_rising {
+        if control.sync_enabled {
+            if source_control.sync_enabled {
+                if before.msb_rising {
+                    return tone;
+                }
+                return tone.reset_phase();
+            }
+            return tone.reset_phase();
+        }
+        return tone;
     }
+    tone
 }
 
 impl Mos6581 {

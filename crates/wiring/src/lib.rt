@@ -93,16 +93,19 @@ impl Wiring {
     }
 
     // The code of a voice with a waveform, before its lines are loaded. Who does not ring asks nothing of the modulator:
-    // codes that feed back would else wait for each other.
+    // codes that feed back would else wait for each other. So by one `if` in the other: joined by `&&` the two tests are
+    // compiled into one that reads the modulator on every clock, which was slower. So it is in the calls below.
     pub fn code(self, tone: Tone, visible: u16, modulator_acc: u32) -> u16
         ensures { result ≡ code_of self tone visible modulator_acc }
     {
         let phase = tone.phase();
-        if self.rings && modulator_acc & 0x0080_0000 == 0 {
-            self.joined(phase ^ 0x0800, tone, visible)
-        } else {
-            self.joined(phase, tone, visible)
+        if self.rings {
+            if modulator_acc & 0x0080_0000 == 0 {
+                return self.joined(phase ^ 0x0800, tone, visible);
+            }
+            return self.joined(phase, tone, visible);
         }
+        self.joined(phase, tone, visible)
     }
 
     // The code with its lines loaded: by the pack's entry, or settled where the pack has none.
@@ -110,29 +113,37 @@ impl Wiring {
     pub fn loaded(self, pack: &[u16], code: u16) -> u16
         ensures { result ≡ loaded_of self pack.now code }
     {
-        if !self.loads {
-            return code;
+        if self.loads {
+            let at = pack::entry(self.base, code);
+            if at < pack.len() {
+                return pack[at] % 4096;
+            }
+            return waveforms::settled_code(self.selection, code) % 4096;
         }
-        match pack.get(pack::entry(self.base, code)) {
-            Some(entry) => *entry % 4096,
-            None => waveforms::settled_code(self.selection, code) % 4096,
-        }
+        code
     }
 
     pub fn fed_back(self, mut tone: Tone, code: u16) -> Tone
         ensures { result ≡ fed_back_of self tone code }
     {
-        if self.feeds && code & 0x0800 == 0 {
-            tone.accumulator %= 0x0080_0000;
-            tone.msb_rising = false;
+        if self.feeds {
+            if code & 0x0800 == 0 {
+                tone.accumulator %= 0x0080_0000;
+                tone.msb_rising = false;
+            }
         }
         tone
     }
 
-    #[tactic(auto, unfolding(crate::specs::Wiring::pulls_down_of))]
     pub fn pulls_down(self, noise: Noise, cycle: u64) -> bool
         ensures { result ≡ pulls_down_of self noise cycle }
     {
-        self.drives && (self.selection != 0x0c || noise.pulse_load_aperture(cycle))
+        if self.drives {
+            if self.selection == 0x0c {
+                return noise.pulse_load_aperture(cycle);
+            }
+            return true;
+        }
+        false
     }
 }

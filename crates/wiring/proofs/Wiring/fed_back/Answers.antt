@@ -7,7 +7,6 @@ use lib.Dec.{eqb}
 use Rattle.laws.proofs.Masks.{and_bit}
 use Rattle.wiring.specs.Wiring.{fed_back_of}
 use Rattle.wiring.proofs.Wiring.fed_back.Goals as goal
-use Rattle.wiring.proofs.Wiring.fed_back.Goals.{else-self-via-then-self+else-code-eq0, else-self-via-else-self}
 
 pub returns-then-code-eq0 : goal.returns-then-code-eq0
 unfolding fed_back_of
@@ -16,12 +15,13 @@ returns-then-code-eq0 c =
     let low : eqb (bit_and code 0x800) 0 ≡ eqb (code / 2 ^ 11 % 2) 0 = and_bit code 11 in
     simp (c.if-self.true, sym low ∙ eq-eqb _ _ c.if-code-eq0.true)
 
-pub returns-else-self : goal.returns-else-self
+pub returns-else-code-eq0 : goal.returns-else-code-eq0
 unfolding fed_back_of
-returns-else-self c =
+returns-else-code-eq0 c =
     let code = c.args.code in
     let low : eqb (bit_and code 0x800) 0 ≡ eqb (code / 2 ^ 11 % 2) 0 = and_bit code 11 in
-    elim c.else-self.branch [
-      | else-self-via-then-self+else-code-eq0 w ↦ simp (w.if-self.true, sym low ∙ ne_eqb _ _ w.if-code-eq0.false)
-      | else-self-via-else-self w ↦ simp w.if-self.false
-    ]
+    simp (c.if-self.true, sym low ∙ ne_eqb _ _ c.if-code-eq0.false)
+
+pub returns-else-self : goal.returns-else-self
+unfolding fed_back_of
+returns-else-self c = simp c.if-self.false
