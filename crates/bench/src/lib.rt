@@ -11,14 +11,16 @@ ghost use Rattle.bench.specs.Bench.{afloat, value_for};
 use sid::Mos6581;
 
 // No two waveforms at once: those settle afresh on each clock, which has scenes of its own.
+#[tactic(auto, unfolding(crate::specs::Bench::value_for))]
 fn value_for(register: u16, seed: u16) -> u8
     ensures { result ≡ value_for register seed }
 {
     let byte = (seed / 256) as u8;
     if register % 7 == 4 {
-        return byte % 16 + (seed % 3 * 32) as u8;
+        byte % 16 + (seed % 3 * 32) as u8
+    } else {
+        byte
     }
-    byte
 }
 
 // A fresh chip left alone.
@@ -26,9 +28,7 @@ fn value_for(register: u16, seed: u16) -> u8
 pub extern "C" fn bench_idle(clocks: u64) -> u64
     ensures { result ≡ heard (ticks clocks fresh) }
 {
-    let chip = Mos6581::new();
-    let after = run::run(chip, clocks);
-    scenes::heard(after)
+    scenes::heard(run::run(Mos6581::new(), clocks))
 }
 
 // Three voices with one control byte, by `run`.
@@ -36,20 +36,18 @@ pub extern "C" fn bench_idle(clocks: u64) -> u64
 pub extern "C" fn bench_run(control: u8, clocks: u64) -> u64
     ensures { result ≡ heard (ticks clocks (scene control)) }
 {
-    let chip = scenes::scene(control);
-    let after = run::run(chip, clocks);
-    scenes::heard(after)
+    scenes::heard(run::run(scenes::scene(control), clocks))
 }
 
 // Three voices whose last codes are left on floating lines, by `run`.
+#[tactic(auto, unfolding(crate::specs::Bench::afloat))]
 #[unsafe(no_mangle)]
 pub extern "C" fn bench_floats(control: u8, clocks: u64) -> u64
     ensures { result ≡ heard (ticks clocks (afloat control)) }
 {
     let chip = run::run(scenes::scene(control), 100);
     let off = chip.write(0x04, 0x01).write(0x0b, 0x01).write(0x12, 0x01);
-    let after = run::run(off, clocks);
-    scenes::heard(after)
+    scenes::heard(run::run(off, clocks))
 }
 
 // Three voices with one control byte, by `tick`, heard on every clock.
@@ -60,21 +58,19 @@ pub extern "C" fn bench_ticks(control: u8, clocks: u64) -> u64
     scenes::ticks_heard(scenes::scene(control), clocks)
 }
 
-// Writes to any of the voices' registers, some clocks apart.
+// Writes to any of the voices' registers, some clocks apart. Its twin over a pack is `bench_pack_writes`: with closures
+// for what differs, `make bench`'s rows of writes run more instructions, the chip being copied for each call.
 #[unsafe(no_mangle)]
 pub extern "C" fn bench_writes(seed: u16, writes: u64, apart: u64) -> u64
     ensures { result ≡ heard (stirred ticks value_for writes seed apart) }
 {
     let mut chip = Mos6581::new();
-    let mut x: u16 = seed;
-    let mut i: u64 = 0;
-    while i < writes {
+    let mut x = seed;
+    for _ in 0..writes {
         x = scenes::next(x);
         let register = x % 21;
-        let value = value_for(register, x);
-        chip = chip.write(register, value);
+        chip = chip.write(register, value_for(register, x));
         chip = run::run(chip, apart);
-        i += 1;
     }
     scenes::heard(chip)
 }

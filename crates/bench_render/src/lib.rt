@@ -15,11 +15,8 @@ fn render_times(from: Mos6581, calls: u64, pack: &[u16], out: &mut [u16]) -> Mos
     ensures { (result ≡ times calls (pack_ran pack.now (clocks_in out.old)) from) × (out.new ≡ stored pack.now calls from out.old) }
 {
     let mut chip = from;
-    let mut i: u64 = 0;
-    while i < calls {
-        let r = run::render(chip, pack, out);
-        chip = r.chip;
-        i += 1;
+    for _ in 0..calls {
+        chip = run::render(chip, pack, out).chip;
     }
     chip
 }
@@ -29,13 +26,12 @@ fn render_times(from: Mos6581, calls: u64, pack: &[u16], out: &mut [u16]) -> Mos
 pub extern "C" fn bench_render_idle(calls: u64, pack: &[u16], out: &mut [u16]) -> u64
     ensures { (result ≡ heard (times calls (pack_ran pack.now (clocks_in out.old)) fresh)) × (out.new ≡ stored pack.now calls fresh out.old) }
 {
-    let chip = Mos6581::new();
-    let after = render_times(chip, calls, pack, out);
-    scenes::heard(after)
+    scenes::heard(render_times(Mos6581::new(), calls, pack, out))
 }
 
 // Three voices, each with a control byte of its own.
 #[unsafe(no_mangle)]
+#[tactic(auto, unfolding(crate::specs::BenchRender::mixed))]
 pub extern "C" fn bench_render(
     control_0: u8,
     control_1: u8,
@@ -49,6 +45,5 @@ pub extern "C" fn bench_render(
     let chip = scenes::scene(control_0)
         .write(0x0b, control_1)
         .write(0x12, control_2);
-    let after = render_times(chip, calls, pack, out);
-    scenes::heard(after)
+    scenes::heard(render_times(chip, calls, pack, out))
 }

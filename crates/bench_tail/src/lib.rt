@@ -2,46 +2,27 @@
 #![tactic(auto)]
 
 ghost use Rattle.std.specs.Prelude.{◌≡◌};
+ghost use Rattle.refusals.specs.Refusals.{tells};
 ghost use Rattle.oscillator.specs.Ways.{stepwise};
 ghost use Rattle.scenes.specs.Scenes.{heard, scene};
-ghost use Rattle.tail.specs.Tail.{free_told, ran_chip};
+ghost use Rattle.tail.specs.Tail.{ran_chip};
 ghost use Rattle.bench_tail.specs.Bench.{at_level, clocks_told, forecasts};
 
-use sid::{Mos6581, Voice};
-use tail::Free;
+use refusals::Refused;
+use sid::Mos6581;
 
-fn at_level(chip: Mos6581, level: u8) -> Mos6581
+#[tactic(auto, unfolding(crate::specs::Bench::at_level))]
+fn at_level(mut chip: Mos6581, level: u8) -> Mos6581
     ensures { result ≡ at_level chip level }
 {
-    let v = chip.voice_0;
-    let oscillator = v.oscillator;
-    let mut envelope = v.envelope;
-    envelope.volume = level;
-    let voice_0 = Voice {
-        oscillator,
-        envelope,
-    };
-    let voice_1 = chip.voice_1;
-    let voice_2 = chip.voice_2;
-    let data_bus = chip.data_bus;
-    Mos6581 {
-        voice_0,
-        voice_1,
-        voice_2,
-        data_bus,
-        pot_x: chip.pot_x,
-        pot_y: chip.pot_y,
-        cycle: chip.cycle,
-    }
+    chip.voice_0.envelope.volume = level;
+    chip
 }
 
-fn clocks_told(f: Free) -> u64
-    ensures { result ≡ clocks_told (free_told f) }
+fn clocks_told(forecast: Result<u32, Refused>) -> u64
+    ensures { result ≡ clocks_told (tells forecast) }
 {
-    match f {
-        Free::In { clocks } => clocks as u64,
-        Free::Refused(_) => 0,
-    }
+    forecast.map_or(0, u64::from)
 }
 
 // A fresh chip's voice 0, at one level after another.
@@ -51,11 +32,9 @@ pub extern "C" fn bench_forecasts(calls: u64) -> u64
 {
     let chip = Mos6581::new();
     let mut sum: u64 = 0;
-    let mut i: u64 = 0;
-    while i < calls {
+    for i in 0..calls {
         let told = clocks_told(tail::forecast(at_level(chip, (i % 256) as u8), 0));
-        sum = std::num::wrapping_add_u64(sum, told);
-        i += 1;
+        sum = sum.wrapping_add(told);
     }
     sum
 }
@@ -65,8 +44,5 @@ pub extern "C" fn bench_forecasts(calls: u64) -> u64
 pub extern "C" fn bench_to_held(control: u8, clocks: u32) -> u64
     ensures { result ≡ heard (ran_chip stepwise (scene control) 0 clocks) }
 {
-    let chip = scenes::scene(control);
-    let ran = tail::run_to_held(chip, 0, clocks);
-    let after = ran.chip;
-    scenes::heard(after)
+    scenes::heard(tail::run_to_held(scenes::scene(control), 0, clocks).chip)
 }

@@ -76,7 +76,7 @@ fn call_list(
     };
     let w = call_all(rt, from, words::u16_at(head, 22), buffer)?;
     if words::u8_at(head, 21) == 1 {
-        printer::print_listing(1, buffer.get(..w.at).unwrap_or(buffer), pack);
+        let _ = printer::print_listing(1, buffer.get(..w.at).unwrap_or(buffer), pack);
     }
     Ok(())
 }

@@ -1,21 +1,19 @@
 -- `bench_writes` gives what is heard of a fresh chip after so many seeded writes, each with the same clocks after it.
-use borrow.Author.Rules.{rules}
 use native.Mathlib.Numerals.{add-one}
 use mathlib.Core.Path.{refl}
 use Rattle.laws.specs.Times.{times}
 use Rattle.scenes.specs.Scenes.{stirred}
 use Rattle.bench.proofs.bench_writes.Goals as goal
 
-pub loop-i-init : goal.loop-i-init
+pub loop-init : goal.loop-init
 unfolding times stirred
-loop-i-init c = (search rules, refl, c.new-chip.ensures)
+loop-init c = (refl, c.new-chip.ensures)
 
-pub loop-i-preserved : goal.loop-i-preserved
+pub loop-preserved : goal.loop-preserved
 unfolding times stirred
-loop-i-preserved c =
-    let l = c.loop-i in
+loop-preserved c =
+    let l = c.loop in
     let x = c.next-x.ensures in (
-      search rules,
-      rw add-one (simp (x, l.invariant.1)),
-      rw add-one (simp (c.run-chip.ensures, c.write-chip.ensures, c.value_for-value.ensures, x, l.invariant.1, l.invariant.2)),
+      rw add-one (simp (x, l.invariant.0)),
+      rw add-one (simp (c.run-chip.ensures, c.write-chip.ensures, c.value_for.ensures, x, l.invariant.0, l.invariant.1)),
     )
