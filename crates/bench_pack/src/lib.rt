@@ -27,7 +27,7 @@ pub extern "C" fn bench_pack_run(control: u8, clocks: u64, pack: &[u16]) -> u64
     scenes::heard(run::run_packed(scenes::scene(control), clocks, pack).chip)
 }
 
-// The same by `tick_packed`, heard on every clock: as `scenes::ticks_heard`, where why they are two is told.
+// The same by `tick_packed`, heard on every clock: as `scenes::ticks_heard`, where it says why they are two.
 #[unsafe(no_mangle)]
 pub extern "C" fn bench_pack_ticks(control: u8, clocks: u64, pack: &[u16]) -> u64
     ensures { result ≡ summed (pack_tick pack.now) clocks (scene control) }
@@ -54,8 +54,8 @@ pub extern "C" fn bench_both_ticks(control: u8, clocks: u64) -> u64
     scenes::ticks_heard(scenes::scene(control), clocks)
 }
 
-// Any byte to any of the voices' registers, some clocks apart, by `run_packed`: as `bench_writes`, where why they are two
-// is told.
+// Any byte to any of the voices' registers, some clocks apart, by `run_packed`: as `bench_writes`, where it says why
+// they are two.
 #[unsafe(no_mangle)]
 pub extern "C" fn bench_pack_writes(seed: u16, writes: u64, apart: u64, pack: &[u16]) -> u64
     ensures { result ≡ heard (stirred (pack_ran pack.now) any_value writes seed apart) }

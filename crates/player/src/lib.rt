@@ -192,6 +192,7 @@ impl Player {
 pub const STEPS: u32 = 9362;
 
 // All steps of a score: the player after them and the length of the listing, which is put where there is room for it.
+// A buffer, and no closure for each text: what a closure did with its captures is not known after the calls.
 fn play(s: &[u8], pack: &[u16], out: &mut [u8]) -> Stepped
     ensures { PlaysScore (over pack.now) s.now out.old result out.new }
 {

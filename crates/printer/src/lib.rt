@@ -26,7 +26,7 @@ fn fill(from: Player, s: &[u8], pack: &[u16], steps: u32, out: &mut [u8]) -> Fil
         len: 0,
     };
     let mut line = [0u8; TEXT];
-    // The steps left are counted by hand: `Fills` tells them.
+    // A `while`, and not the player's loop: it also stops for want of room, and `Filling` goes by the steps left.
     while 0 < filled.left && !filled.player.rest.is_nothing() && TEXT <= out.len() - filled.len {
         let next = filled.player.step(s, pack, &mut line);
         listing::copy_into(out, filled.len, &line[..next.len]);

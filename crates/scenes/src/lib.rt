@@ -67,8 +67,8 @@ pub fn next(seed: u16) -> u16
     seed.wrapping_mul(25173).wrapping_add(13849)
 }
 
-// The digests of single clocks by `tick`, summed. Its twin over a pack is `bench_pack_ticks`, which a closure for the
-// tick would join with it: in `make bench` the rows of `tick` then take a sixth more, the chip being copied for the call.
+// The digests of single clocks by `tick`, summed. Its twin over a pack is `bench_pack_ticks`: one loop with a closure
+// for the tick makes the rows of `tick` in `make bench` a sixth slower, since the chip is copied for each call.
 pub fn ticks_heard(from: Mos6581, clocks: u64) -> u64
     ensures { result ≡ summed ticked clocks from }
 {

@@ -94,7 +94,7 @@ impl Wiring {
 
     // The code of a voice with a waveform, before its lines are loaded. Who does not ring asks nothing of the modulator:
     // codes that feed back would else wait for each other. So by one `if` in the other: joined by `&&` the two tests are
-    // compiled into one that reads the modulator on every clock, which was slower. So it is in `fed_back`, of the code.
+    // compiled into one that reads the modulator on every clock, which was slower. So it is in the calls below.
     pub fn code(self, tone: Tone, visible: u16, modulator_acc: u32) -> u16
         ensures { result ≡ code_of self tone visible modulator_acc }
     {
@@ -135,10 +135,15 @@ impl Wiring {
         tone
     }
 
-    #[tactic(auto, unfolding(crate::specs::Wiring::pulls_down_of))]
     pub fn pulls_down(self, noise: Noise, cycle: u64) -> bool
         ensures { result ≡ pulls_down_of self noise cycle }
     {
-        self.drives && (self.selection != 0x0c || noise.pulse_load_aperture(cycle))
+        if self.drives {
+            if self.selection == 0x0c {
+                return noise.pulse_load_aperture(cycle);
+            }
+            return true;
+        }
+        false
     }
 }

@@ -7,6 +7,6 @@ pub returns-then-feedback-eq0 : goal.returns-then-feedback-eq0
 unfolding incoming
 returns-then-feedback-eq0 c = simp (sym c.feedback.ensures, eq-eqb _ _ c.if-feedback-eq0.true)
 
-pub returns-else-feedback-eq0 : goal.returns-else-feedback-eq0
+pub returns : goal.returns
 unfolding incoming
-returns-else-feedback-eq0 c = simp (sym c.feedback.ensures, ne_eqb _ _ c.if-feedback-eq0.false)
+returns c = simp (sym c.feedback.ensures, ne_eqb _ _ c.if-feedback-eq0.false)

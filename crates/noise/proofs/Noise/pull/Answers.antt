@@ -3,14 +3,17 @@ use Rattle.std.proofs.Common.{sym, ◌∙◌}
 use lib.Bits.{and_mask}
 use Rattle.noise.specs.Noise.{cleared_to, pulled_numbers}
 use Rattle.noise.proofs.Noise.pull.Goals as goal
-use Rattle.noise.proofs.Noise.pull.Goals.{then-affects_capture, else-affects_capture}
+
+pub returns-then-affects_capture : goal.returns-then-affects_capture
+unfolding pulled_numbers
+returns-then-affects_capture c =
+    let n = c.args.self in
+    let w = c.args.waveform in
+    simp (sym c.affects_capture.ensures ∙ c.if-affects_capture.true, c.project-visible.ensures, c.cleared-state.ensures, c.cleared-captured.ensures, and_mask (cleared_to w n.state 8) 23, and_mask (cleared_to w n.captured 8) 23)
 
 pub returns : goal.returns
 unfolding pulled_numbers
 returns c =
     let n = c.args.self in
     let w = c.args.waveform in
-    elim c.if-affects_capture.branch [
-      | then-affects_capture b ↦ simp (sym c.affects_capture.ensures ∙ b.if-affects_capture.true, c.project.ensures, c.cleared-state.ensures, b.captured-is, b.cleared-captured.ensures, and_mask (cleared_to w n.state 8) 23, and_mask (cleared_to w n.captured 8) 23)
-      | else-affects_capture b ↦ simp (sym c.affects_capture.ensures ∙ b.if-affects_capture.false, c.project.ensures, c.cleared-state.ensures, b.captured-is, and_mask (cleared_to w n.state 8) 23, and_mask n.captured 23)
-    ]
+    simp (sym c.affects_capture.ensures ∙ c.if-affects_capture.false, c.project-visible.ensures, c.cleared-state.ensures, and_mask (cleared_to w n.state 8) 23, and_mask n.captured 23)
