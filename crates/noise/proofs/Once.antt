@@ -26,7 +26,7 @@ pub entered_ahead : (g : NoiseGenerator) (cycle : ℕ) → cycle < 2 ^ 63 → Ah
 unfolding entered_test
 entered_ahead g cycle early = omega arith
 
-has_come : (at cycle : ℕ) → come at cycle ≡ true → at ≤ cycle
+pub has_come : (at cycle : ℕ) → come at cycle ≡ true → at ≤ cycle
 unfolding come
 has_come at cycle e = leb-true at cycle (and_right (not (eqb at never)) (leb at cycle) e)
 

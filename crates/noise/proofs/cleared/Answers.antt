@@ -16,7 +16,7 @@ loop-line-preserved c =
     let l = c.loop-line in (
       search rules,
       rw add-one (elim c.if-is_low.branch [
-        | then-is_low w ↦ simp (sym c.is_low.ensures ∙ w.if-is_low.true, w.out-is, w.tap-stage.ensures.is, one_shl (tap l.line) 32 (omega (arith, tap_lt l.line (omega arith))), l.invariant.1)
-        | else-is_low w ↦ simp (sym c.is_low.ensures ∙ w.if-is_low.false, w.out-is, l.invariant.1)
+        | then-is_low w ↦ simp (sym c.is_low.ensures ∙ w.if-is_low.true, w.state-is, one_shl (tap l.line) 32 (omega (arith, tap_lt l.line (omega arith))), l.invariant.1)
+        | else-is_low w ↦ simp (sym c.is_low.ensures ∙ w.if-is_low.false, w.state-is, l.invariant.1)
       ]),
     )

@@ -13,7 +13,7 @@ unfolding discharged_to
 loop-line-preserved c = (
   search rules,
   rw add-one (elim c.if-is_low.branch [
-    | then-is_low w ↦ simp (sym c.is_low.ensures ∙ w.if-is_low.true, w.charge-is, w.tap-stage.ensures.is, c.loop-line.invariant.1)
+    | then-is_low w ↦ simp (sym c.is_low.ensures ∙ w.if-is_low.true, w.charge-is, c.loop-line.invariant.1)
     | else-is_low w ↦ simp (sym c.is_low.ensures ∙ w.if-is_low.false, w.charge-is, c.loop-line.invariant.1)
   ]),
 )

@@ -7,8 +7,8 @@ use Rattle.noise.proofs.has_come.Goals as goal
 
 pub returns-then-cycle-at : goal.returns-then-cycle-at
 unfolding come
-returns-then-cycle-at c = simp (lt-leb _ _ c.if-cycle-at.true, and-false)
+returns-then-cycle-at c = simp (le-leb _ _ c.if-cycle-at.true, and-true)
 
-pub returns : goal.returns
+pub returns-else-cycle-at : goal.returns-else-cycle-at
 unfolding come
-returns c = simp (le-leb _ _ c.if-cycle-at.false, and-true)
+returns-else-cycle-at c = simp (lt-leb _ _ c.if-cycle-at.false, and-false)

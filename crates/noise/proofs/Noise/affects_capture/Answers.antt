@@ -4,4 +4,4 @@ use Rattle.noise.proofs.Noise.affects_capture.Goals as goal
 
 pub returns : goal.returns
 unfolding affects_capture
-returns c = simp (c.has_come.ensures, c.wrapping_add_u64.ensures.value)
+returns c = simp c.has_come.ensures

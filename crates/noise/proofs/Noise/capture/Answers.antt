@@ -1,7 +1,8 @@
 -- `Noise::capture` is the numbers after a rise: the stages are captured, and the shift lands two clocks later.
+use Rattle.std.proofs.Common.{refl}
 use Rattle.noise.specs.Noise.{capture_numbers}
 use Rattle.noise.proofs.Noise.capture.Goals as goal
 
 pub returns : goal.returns
 unfolding capture_numbers
-returns c = simp c.wrapping_add_u64-transfer_at.ensures.value
+returns c = refl

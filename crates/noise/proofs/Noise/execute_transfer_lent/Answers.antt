@@ -5,7 +5,7 @@ use Rattle.noise.proofs.Noise.execute_transfer_lent.Goals as goal
 
 pub returns-then-transfers : goal.returns-then-transfers
 unfolding transferred
-returns-then-transfers c = simp (sym c.transfers.ensures ∙ c.if-transfers.true, c.shift.ensures, c.shifted_charge-next_charge.ensures, c.incoming.ensures)
+returns-then-transfers c = simp (sym c.transfers.ensures ∙ c.if-transfers.true, c.shift.ensures, c.shifted_charge.ensures, c.incoming.ensures)
 
 pub returns : goal.returns
 unfolding transferred

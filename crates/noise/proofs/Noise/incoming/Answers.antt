@@ -7,6 +7,6 @@ pub returns-then-feedback-eq0 : goal.returns-then-feedback-eq0
 unfolding incoming
 returns-then-feedback-eq0 c = simp (sym c.feedback.ensures, eq-eqb _ _ c.if-feedback-eq0.true)
 
-pub returns : goal.returns
+pub returns-else-feedback-eq0 : goal.returns-else-feedback-eq0
 unfolding incoming
-returns c = simp (sym c.feedback.ensures, ne_eqb _ _ c.if-feedback-eq0.false)
+returns-else-feedback-eq0 c = simp (sym c.feedback.ensures, ne_eqb _ _ c.if-feedback-eq0.false)

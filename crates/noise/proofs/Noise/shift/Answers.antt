@@ -4,4 +4,4 @@ use Rattle.noise.proofs.Noise.shift.Goals as goal
 
 pub returns : goal.returns
 unfolding shifted_numbers
-returns c = simp (c.project-visible.ensures, c.shifted_state-state.ensures)
+returns c = simp (c.project.ensures, c.shifted_state-state.ensures)

@@ -9,8 +9,8 @@ returns-then-test c = simp (c.if-test.true, c.has_come.ensures)
 
 pub returns-then-transfers : goal.returns-then-transfers
 unfolding step_due
-returns-then-transfers c = simp (c.if-test.false, sym c.transfers.ensures ∙ c.if-transfers.true)
+returns-then-transfers c = c.if-transfers.true ∙ simp (c.if-test.false, sym c.transfers.ensures ∙ c.if-transfers.true)
 
-pub returns : goal.returns
+pub returns-else-transfers : goal.returns-else-transfers
 unfolding step_due
-returns c = simp (c.if-test.false, sym c.transfers.ensures ∙ c.if-transfers.false, c.captures-2.ensures)
+returns-else-transfers c = simp (c.if-test.false, sym c.transfers.ensures ∙ c.if-transfers.false, c.captures-2.ensures)

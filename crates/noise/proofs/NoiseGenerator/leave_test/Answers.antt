@@ -4,4 +4,4 @@ use Rattle.noise.proofs.NoiseGenerator.leave_test.Goals as goal
 
 pub returns : goal.returns
 unfolding left_test
-returns c = simp (c.project-visible.ensures, c.sampled-state.ensures, c.wrapping_add_u64-transfer_at.ensures.value)
+returns c = simp (c.project.ensures, c.sampled-state.ensures)

@@ -4,4 +4,4 @@ use Rattle.noise.proofs.NoiseGenerator.new.Goals as goal
 
 pub returns : goal.returns
 unfolding fresh
-returns c = simp (c.project-visible.ensures, c.charges_of-charge.ensures)
+returns c = simp (c.project.ensures, c.charges_of-charge.ensures)

@@ -7,6 +7,6 @@ pub returns-then-test : goal.returns-then-test
 unfolding stepped_by
 returns-then-test c = simp c.if-test.true c.relax.ensures
 
-pub returns : goal.returns
+pub returns-else-test : goal.returns-else-test
 unfolding stepped_by
-returns c = simp (c.if-test.false, c.clock.ensures, c.execute_transfer.ensures)
+returns-else-test c = simp (c.if-test.false, c.clock.ensures, c.execute_transfer.ensures)

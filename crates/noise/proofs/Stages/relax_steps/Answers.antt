@@ -1,12 +1,17 @@
 -- `Stages::relax_steps` makes exactly so many leak steps of the 23 stages, each on what the one before it left.
-use Rattle.std.proofs.Common.{refl, add-one, rules}
+use Rattle.std.proofs.Common.{refl, ap, ◌∙◌, add-one}
+use Rattle.laws.proofs.Loops.{ended}
 use Rattle.laws.specs.Times.{times}
+use Rattle.noise.specs.Noise.{relax_step}
 use Rattle.noise.proofs.Stages.relax_steps.Goals as goal
 
-pub loop-step-init : goal.loop-step-init
+pub loop-init : goal.loop-init
 unfolding times
-loop-step-init c = (search rules, refl)
+loop-init c = refl
 
-pub loop-step-preserved : goal.loop-step-preserved
+pub loop-preserved : goal.loop-preserved
 unfolding times
-loop-step-preserved c = (search rules, rw add-one (simp (c.relax_step-out.ensures, c.loop-step.invariant.1)))
+loop-preserved c = rw add-one (c.relax_step.ensures ∙ ap relax_step c.loop.invariant)
+
+pub returns : goal.returns
+returns c = ended (λ n. times n relax_step c.args.self.now) _ _ _ c.loop.auto.counter-end c.loop-test.false c.loop.invariant
