@@ -33,6 +33,8 @@ fn hold(bit: usize) -> u32
 }
 
 // The loop over the lines in the Rust's `clock`, from the highest down.
+// Not inlined, nor is the next, so that a clock on which no bit goes saves no registers for them.
+#[inline(never)]
 #[tactic(auto, using(crate::proofs::Kept::kept_turns))]
 fn retained(value: u8, age: u32) -> u8
     ensures { result ≡ kept holds value age }
@@ -47,6 +49,7 @@ fn retained(value: u8, age: u32) -> u8
     out
 }
 
+#[inline(never)]
 #[tactic(auto, using(crate::proofs::Expiry::next_turns))]
 fn next_expiry_for(value: u8, age: u32) -> u32
     ensures { result ≡ next_expiry_for holds value age }
