@@ -45,7 +45,7 @@ fn powi(base: f32, exponent: u32) -> f32
 }
 
 // The coupling of a source and a destination stands at `source * 12 + destination`.
-#[derive(Clone, Copy)]
+#[derive(Clone, Copy, PartialEq, Debug)]
 pub struct LineArray {
     pub selection: u8,
     pub coupling: [f32; 144],

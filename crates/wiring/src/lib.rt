@@ -8,7 +8,7 @@ ghost use Rattle.wiring.specs.Wiring.{high, wired, rings_of, feeds_of, pulse_of,
 use noise::Noise;
 use oscillator::{Control, Tone, WaveformSelect};
 
-#[derive(Clone, Copy)]
+#[derive(Clone, Copy, PartialEq, Eq, Debug)]
 pub struct Wiring {
     pub selection: u8,
     // no waveform is selected, or two and more are
