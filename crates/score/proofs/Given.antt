@@ -100,7 +100,7 @@ module _ {s : List ℕ} where
   place_most (row_10 p w t e l) = omega (arith, prefix_short p)
   place_most (row_11 p) = prefix_short p
 
--- ---- where the check gives a number, its row is given; where it Ok, there is a chain
+-- ---- where the check gives a number, its row is given; where it accepts, there is a chain
 
 module _ (s : List ℕ) where
   -- what an answer of the walk from `at` on means

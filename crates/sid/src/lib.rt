@@ -108,7 +108,7 @@ impl Voice {
 }
 
 // The conditions of the Rust's `tick`, with the voice's source and the source's source as they were before any
-// synchronisation. One `if` in the other: as one condition joined by `&&` it was slower in a loop with sync enabled.
+// synchronisation. One `if` in the other: as one condition joined by `&&` the row 'run, triangles, ring and sync' is slower.
 pub fn synced(
     tone: Tone,
     control: Control,
