@@ -17,7 +17,7 @@ use sid::{Mos6581, Voice};
 
 // What a tick gives: the chip after it, the codes and the levels of its voices, and the bits that its data bus lost.
 // Six numbers by their names: a caller takes one or another of them, and nothing takes the six apart from the chip.
-#[derive(Clone, Copy)]
+#[derive(Clone, Copy, PartialEq, Eq, Debug)]
 pub struct Ticked {
     pub chip: Mos6581,
     pub code_0: u16,
@@ -29,8 +29,9 @@ pub struct Ticked {
     pub lost: u8,
 }
 
-// What a tick over a pack gives: where it is refused, the chip as it was.
-#[derive(Clone, Copy)]
+// What a tick over a pack gives: where it is refused, the chip as it was. No Result: the caller gets its
+// chip back then too.
+#[derive(Clone, Copy, PartialEq, Eq, Debug)]
 pub struct PackTicked {
     pub ticked: Ticked,
     pub answer: Result<(), Refused>,
@@ -293,6 +294,7 @@ pub fn tick_over(chip: Mos6581, pack: &[u16]) -> Ticked
         pot_y: chip.pot_y,
         cycle,
     };
+    // From the locals: a call of `heard` would read them out of the chip again, and this is the clock's path.
     Ticked {
         chip: after,
         code_0: tone_0.last_sample,
