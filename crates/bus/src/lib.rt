@@ -21,7 +21,7 @@ pub struct BusClock {
 
 const DATA_BUS_HOLD_CYCLES: [u32; 8] = [12, 26624, 34816, 38912, 7680, 11264, 15360, 43008];
 
-// The greatest number, and no Option: an age is compared with it on each clock, which is to stay one comparison.
+// The Rust's own, by which no age comes to it; `fresh` and `next_expiry_for` of the specs name the number.
 const NO_EXPIRY: u32 = u32::MAX;
 
 #[tactic(auto, using(crate::proofs::Kept::hold_positive), unfolding(crate::specs::Bus::holds))]
@@ -33,6 +33,8 @@ fn hold(bit: usize) -> u32
 }
 
 // The loop over the lines in the Rust's `clock`, from the highest down.
+// Not inlined, nor is the next, so that a clock on which no bit goes saves no registers for them.
+#[inline(never)]
 #[tactic(auto, using(crate::proofs::Kept::kept_turns))]
 fn retained(value: u8, age: u32) -> u8
     ensures { result ≡ kept holds value age }
@@ -47,6 +49,7 @@ fn retained(value: u8, age: u32) -> u8
     out
 }
 
+#[inline(never)]
 #[tactic(auto, using(crate::proofs::Expiry::next_turns))]
 fn next_expiry_for(value: u8, age: u32) -> u32
     ensures { result ≡ next_expiry_for holds value age }
@@ -160,7 +163,8 @@ impl InternalDataBus {
 }
 
 // A bus by value, lent to its own method: for a caller whose bus is part of a larger state.
-// `clocked` promises the same, but in the loops of `run` and `tick` it cost 4 to 9 % in rows of `make bench`.
+// `clocked` promises the same, but called in the loops of `run` and `tick` it makes rows of `make bench` 4 to 9 %
+// slower.
 pub fn lent_clock(mut b: InternalDataBus) -> InternalDataBus
     ensures { result ≡ clocked b }
 {

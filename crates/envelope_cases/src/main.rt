@@ -6,6 +6,7 @@
 use cases::Tally;
 use envelope::Envelope;
 
+// A call's number is read here alone: an enum of the calls would only be one match more.
 fn made(record: &[u8], e: Envelope, after: Envelope) -> Envelope {
     let operand = words::u16_at(record, 1);
     let byte = (operand % 256) as u8;

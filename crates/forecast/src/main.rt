@@ -4,6 +4,7 @@
 
 use sid::Mos6581;
 
+// By `io`, as a refusal is: a write that fails is not told.
 fn print_voice(chip: Mos6581, voice: u8) {
     io::print_decimal(1, voice as u64);
     io::write_all(1, b" ");

@@ -86,6 +86,7 @@ struct Packs<'a> {
     one_number: &'a [u16],
 }
 
+// A call's number is read here alone: an enum of the calls would only be one match more.
 fn made(record: &[u8], chip: Mos6581, packs: Packs) -> Answered
     requires { length «record».now ≡ 32 }
 {

@@ -1,4 +1,4 @@
--- What a pen puts into the lent buffer.
+-- What a pen puts into the lent buffer; only the contracts of the pen's own methods cite it, none that is public.
 use Rattle.std.specs.Prelude.{ℕ, List, ◌+◌, ◌≤◌, ◌≡◌, length}
 use Rattle.listing.specs.declared.Pen.{Pen}
 use Rattle.listing.specs.Text.{Put}

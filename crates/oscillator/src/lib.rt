@@ -111,6 +111,7 @@ impl WaveformSelect {
     }
 }
 
+// Two numbers and no struct: this is public, and `tick` and `run` call it on every clock with two locals.
 pub fn rising(old_acc: u32, new_acc: u32) -> u32
     ensures { result ≡ rising old_acc new_acc }
 {
@@ -326,7 +327,7 @@ impl Tone {
         self.compared(control).fed_back(control, code).latched(code)
     }
 
-    // The phase in `write_control`.
+    // The phase in `write_control`. Old and new stand apart here and below: each takes another of the control's fields.
     fn tested(self, old_test: bool, new_test: bool) -> Tone
         ensures { result ≡ tested_tone self old_test new_test }
     {
@@ -530,6 +531,7 @@ impl Oscillator {
         self
     }
 
+    // The modulator's phase is another voice's and the cycle the chip's: public, and in no struct below the chip.
     pub fn evaluate_output(mut self, modulator_acc: u32, cycle: u64) -> Evaluated
         ensures { result ≡ evaluated self modulator_acc cycle }
     {

@@ -180,6 +180,7 @@ fn run(mut timed: Timed, clocks: u32) -> Gave {
     }
 }
 
+// A call's number is read here alone: an enum of the calls would only be one match more.
 fn made(call: u8, operand: u32, timed: Timed, states: &[u8]) -> Gave {
     let byte = (operand % 256) as u8;
     let half = (operand % 65536) as u16;

@@ -8,7 +8,7 @@ ghost use Rattle.panel.specs.Panel.{fresh, ran_to_by, leapt_by, watching, writte
 
 use sid::Mos6581;
 
-#[derive(Clone, Copy)]
+#[derive(Clone, Copy, PartialEq, Eq, Debug)]
 pub struct Panel {
     pub chip: Mos6581,
     pub clock: u32,
@@ -16,13 +16,13 @@ pub struct Panel {
 }
 
 // The panel after a leap, and the bits that its bus lost on the last clock of it.
-#[derive(Clone, Copy)]
+#[derive(Clone, Copy, PartialEq, Eq, Debug)]
 pub struct Leapt {
     pub panel: Panel,
     pub lost: u8,
 }
 
-#[derive(Clone, Copy)]
+#[derive(Clone, Copy, PartialEq, Eq, Debug)]
 pub struct PanelRead {
     pub panel: Panel,
     pub byte: u8,

@@ -33,21 +33,21 @@ impl Rest {
     }
 }
 
-#[derive(Clone, Copy)]
+#[derive(Clone, Copy, PartialEq, Eq, Debug)]
 pub struct Player {
     pub panel: Panel,
     pub rest: Rest,
 }
 
 // The player after a step, and the length of its line.
-#[derive(Clone, Copy)]
+#[derive(Clone, Copy, PartialEq, Eq, Debug)]
 pub struct Stepped {
     pub player: Player,
     pub len: usize,
 }
 
 // The panel at a stamp, and the length of the lines of bits that fade on the way.
-#[derive(Clone, Copy)]
+#[derive(Clone, Copy, PartialEq, Eq, Debug)]
 struct Ran {
     panel: Panel,
     len: usize,
@@ -91,6 +91,7 @@ fn run_to(panel: Panel, stamp: u32, pack: &[u16], text: &mut [u8; TEXT]) -> Ran
         };
     }
     let mut ran = Ran { panel, len: 0 };
+    // A `while`: how many leaps there are turns on what the bus loses, so that no iterator counts them.
     while ran.panel.clock < stamp {
         let leapt = ran.panel.leap_to(stamp, pack);
         ran.panel = leapt.panel;
@@ -152,6 +153,7 @@ fn play_field(panel: Panel, f: Field, next: usize, pack: &[u16], text: &mut [u8;
     }
 }
 
+// Score and pack come apart: `step`, `panel_after`, `listing_len` and `listing_into` are public and take them so.
 impl Player {
     // The whole score is checked here, before the first clock.
     #[tactic(auto, unfolding(crate::specs::Steps::start_of))]

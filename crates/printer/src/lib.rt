@@ -55,6 +55,7 @@ pub fn print_listing(to: i32, s: &[u8], pack: &[u16]) -> Result<usize, Stopped>
     let mut p = Player::start(s);
     let mut left: u32 = player::STEPS;
     let mut done: usize = 0;
+    // A `while`: how many parts there are turns on how many lines fit in each, so that no iterator counts them.
     while 0 < left && !p.rest.is_nothing() {
         let part = fill(p, s, pack, left, &mut out);
         if !io::write_all(to, &out[..part.len]) {

@@ -16,6 +16,7 @@ fn read_score(file: &mut File, length: usize, score: &mut [u8]) -> usize
     cases::read_full(file, &mut score[..length])
 }
 
+// By `io`, as the listing that follows it.
 fn print_score(number: u64, score: &[u8], pack: &[u16]) {
     io::write_all(1, b"score ");
     io::print_decimal(1, number);

@@ -19,8 +19,9 @@ use refusals::Refused;
 use sid::{Mos6581, Voice};
 use wiring::Wiring;
 
-// What a run, or a rendering, over a pack gives: where it is refused, the chip as it was.
-#[derive(Clone, Copy)]
+// What a run, or a rendering, over a pack gives: where it is refused, the chip as it was. No Result: the caller gets
+// its chip back then too.
+#[derive(Clone, Copy, PartialEq, Eq, Debug)]
 pub struct PackRan {
     pub chip: Mos6581,
     pub answer: Result<(), Refused>,

@@ -10,7 +10,7 @@ use lib.Dec.{ltb, leb}
 use lib.ListN.{length}
 use borrow.Author.Tests.{lt-ltb, ltb-true, ltb-false, leb-true, leb-false, eqb-true, eqb-false, eq-eqb, ne_eqb}
 use Rattle.laws.proofs.Cond.{by_test}
-use Rattle.refusals.proofs.Numbers.{told_tells}
+use Rattle.refusals.proofs.Numbers.{tells_tells}
 use Rattle.refusals.specs.Refusals.{numbered, told, tells}
 use Rattle.refusals.specs.declared.Refusal.{Refusal}
 use Rattle.refusals.specs.declared.Refused.{Refused}
@@ -27,10 +27,7 @@ use Rattle.score.proofs.Walk.{over, unread, unadmitted, surplus, Kept, kept_firs
 
 -- number and place, or the clocks, tell the answer
 pub verdict_tells : (a b : Result ℕ Refused) → tells a ≡ tells b → a ≡ b
-verdict_tells (Ok a) (Ok b) e = cc
-verdict_tells (Ok a) (Err r) e = cc
-verdict_tells (Err r) (Ok a) e = cc
-verdict_tells (Err a) (Err b) e = ap Err (told_tells a b cc)
+verdict_tells = tells_tells
 
 module _ {s : List ℕ} where
   prefix_short : {at : ℕ} {o : Order} → Prefix s at o → length s ≤ 65536
@@ -103,7 +100,7 @@ module _ {s : List ℕ} where
   place_most (row_10 p w t e l) = omega (arith, prefix_short p)
   place_most (row_11 p) = prefix_short p
 
--- ---- where the check gives a number, its row is given; where it Ok, there is a chain
+-- ---- where the check gives a number, its row is given; where it accepts, there is a chain
 
 module _ (s : List ℕ) where
   -- what an answer of the walk from `at` on means

@@ -12,13 +12,13 @@ use envelope::Envelope;
 use oscillator::{Control, Oscillator, Tone};
 use refusals::{Refusal, Refused};
 
-#[derive(Clone, Copy)]
+#[derive(Clone, Copy, PartialEq, Eq, Debug)]
 pub struct Voice {
     pub oscillator: Oscillator,
     pub envelope: Envelope,
 }
 
-#[derive(Clone, Copy)]
+#[derive(Clone, Copy, PartialEq, Eq, Debug)]
 pub struct Mos6581 {
     pub voice_0: Voice,
     pub voice_1: Voice,
@@ -29,7 +29,7 @@ pub struct Mos6581 {
     pub cycle: u64,
 }
 
-#[derive(Clone, Copy)]
+#[derive(Clone, Copy, PartialEq, Eq, Debug)]
 pub struct Read {
     pub chip: Mos6581,
     pub byte: u8,
@@ -108,7 +108,7 @@ impl Voice {
 }
 
 // The conditions of the Rust's `tick`, with the voice's source and the source's source as they were before any
-// synchronisation. One `if` in the other: as one condition joined by `&&` it was slower in a loop with sync enabled.
+// synchronisation. One `if` in the other: as one condition joined by `&&` the row 'run, triangles, ring and sync' is slower.
 pub fn synced(
     tone: Tone,
     control: Control,
@@ -215,7 +215,7 @@ impl Mos6581 {
 
     // The voice of a number, or the refusal of a number above 2.
     #[tactic(auto, unfolding(crate::specs::Sid::voice_of))]
-    fn voice(self, number: u8) -> Result<Voice, Refused>
+    pub fn voice(self, number: u8) -> Result<Voice, Refused>
         ensures { MatchResult result (λ v. (number ≤ 2) × (v ≡ voice_of self number)) (λ r. (2 < number) × (r ≡ refused Refusal.VoiceNumber 0)) }
     {
         match number {

@@ -1,6 +1,6 @@
 -- `refusal` and `table_after`, one law for each way that a fill goes; and any two answers that tell the same are equal.
 -- Assumes nothing.
-use mathlib.Core.Path.{◌≡◌, refl, ap, sym, ◌∙◌}
+use mathlib.Core.Path.{◌≡◌}
 use mathlib.Core.Bool.{true, false}
 use mathlib.Core.List.{List}
 use Prim.Native.Nat.{ℕ, ◌<◌}
@@ -9,9 +9,9 @@ use lib.ListN.{length}
 use borrow.Author.Tests.{eq-eqb, ne_eqb, lt-ltb, le-ltb}
 use Rattle.std.proofs.Common.{Result, Ok, Err}
 use Rattle.laws.specs.Build.{build}
-use Rattle.refusals.specs.Refusals.{Told, numbered, tells}
+use Rattle.refusals.specs.Refusals.{numbered, tells}
 use Rattle.refusals.specs.declared.Refused.{Refused}
-use Rattle.refusals.proofs.Numbers.{untold, untold_told}
+use Rattle.refusals.proofs.Numbers.{tells_tells}
 use Rattle.tables.specs.Tables.{has_table, refusal, table_after}
 use Rattle.waveforms.specs.Waveforms.{settled, needs_loading}
 
@@ -43,14 +43,5 @@ module _ (s : ℕ) (t : List ℕ) where
       filled n = (rw (has_table_lem, eq-eqb (length t) 4096 n), rw (has_table_lem, eq-eqb (length t) 4096 n))
 
 -- what `fill` promises determines its answer
-untell : Result (Unit {0}) Told → Result (Unit {0}) Refused
-untell (Ok x) = Ok x
-untell (Err t) = Err (untold t)
-
-untell_tells : (a : Result (Unit {0}) Refused) → untell (tells a) ≡ a
-unfolding untell
-untell_tells (Ok x) = refl
-untell_tells (Err r) = ap Err (untold_told r)
-
 pub told_tells : (a b : Result (Unit {0}) Refused) → tells a ≡ tells b → a ≡ b
-told_tells a b e = sym (untell_tells a) ∙ ap untell e ∙ untell_tells b
+told_tells = tells_tells

