@@ -4,7 +4,7 @@
 
 ghost use Rattle.std.specs.Prelude.{◌≡◌, IsUtf8, IsNone};
 ghost use Rattle.io.specs.Counts.{IsPrefixLen};
-ghost use Rattle.cases.specs.Answers.{mixed as Answers·mixed, refusal as Answers·refusal};
+ghost use Rattle.cases.specs.Answers.{mixed, refusal};
 ghost use Rattle.cases.specs.Tally.{none, counted};
 
 use refusals::Refused;
@@ -62,7 +62,7 @@ impl fmt::Display for Tally {
 
 // The digest of one answer more.
 pub fn mixed(digest: u64, field: u64) -> u64
-    ensures { result ≡ Answers·mixed digest field }
+    ensures { result ≡ mixed digest field }
 {
     let sum = digest.wrapping_add(field);
     let spread = sum.wrapping_add(sum << 10);
@@ -71,7 +71,7 @@ pub fn mixed(digest: u64, field: u64) -> u64
 
 // A refusal as an answer: its number from bit 32 on, and its place.
 pub fn refusal(r: Refused) -> u64
-    ensures { result ≡ Answers·refusal r }
+    ensures { result ≡ refusal r }
 {
     (u64::from(u8::from(r.why)) << 32) | (r.place as u64)
 }

@@ -5,7 +5,7 @@
 ghost use Rattle.std.specs.Prelude.{◌≡◌, true, cond, ◌-◌, ◌<◌, ◌≤◌, eqb, ltb, find};
 ghost use Rattle.release.specs.Release.{is_divisor, steps, matches, last_step};
 ghost use Rattle.release.specs.StepClocks.{lag};
-ghost use Rattle.planner.specs.Planner.{release_period, is_settled, last_step_of, to_zero, adds, turn as Planner·turn, held_within};
+ghost use Rattle.planner.specs.Planner.{release_period, is_settled, last_step_of, to_zero, adds, turn, held_within};
 ghost use Rattle.planner.specs.Skips.{is_waiting, Leads};
 
 use envelope::{Envelope, EnvelopeMotion};
@@ -29,7 +29,7 @@ fn first_below(levels: &[u8], level: u8) -> Option<u8>
 // The next level on the way down that queues a divisor: 0xff of an unheld zero.
 #[tactic(auto, using(crate::proofs::Falls::turn_plain))]
 fn turn(level: u8) -> u8
-    ensures { result ≡ Planner·turn level }
+    ensures { result ≡ turn level }
 {
     first_below(&QUEUING, level).unwrap_or(0xff)
 }
@@ -37,7 +37,7 @@ fn turn(level: u8) -> u8
 // The steps down that the divisor in force counts for.
 #[tactic(auto, using(crate::proofs::Falls::turn_below, release::proofs::Steps::steps_closed), unfolding(crate::specs::Planner::turn, release::specs::Release::steps))]
 fn steps_to_turn(level: u8) -> u32
-    ensures { (result ≡ steps level - Planner·turn level) × (1 ≤ result) × (result ≤ 256) }
+    ensures { (result ≡ steps level - turn level) × (1 ≤ result) × (result ≤ 256) }
 {
     if level == 0 {
         return 1;
@@ -58,7 +58,7 @@ fn matches_left(e: Envelope) -> u32
 // The clocks by which the last step lags its match.
 #[tactic(auto, unfolding(release::specs::StepClocks::lag))]
 fn last_lag(level: u8, divisor: u8) -> u32
-    ensures { (result ≡ lag (cond (eqb (Planner·turn level) 0) divisor 30)) × (result ≤ 3) }
+    ensures { (result ≡ lag (cond (eqb (turn level) 0) divisor 30)) × (result ≤ 3) }
 {
     if turn(level) == 0 && divisor == 1 {
         2

@@ -3,14 +3,14 @@
 
 ghost use Rattle.std.specs.Prelude.{◌≡◌, ◌<◌, slice_index};
 ghost use Rattle.sid.specs.Sid.{ticked};
-ghost use Rattle.scenes.specs.Scenes.{digest as Scenes·digest, heard as Scenes·heard, tuned, scene as Scenes·scene, next as Scenes·next, summed};
+ghost use Rattle.scenes.specs.Scenes.{digest, heard, tuned, scene, next, summed};
 
 use sid::Mos6581;
 
 // Codes and levels in one number.
 #[tactic(auto, unfolding(crate::specs::Scenes::digest))]
 pub fn digest(codes: [u16; 3], levels: [u8; 3]) -> u64
-    ensures { result ≡ Scenes·digest (slice_index codes 0) (slice_index codes 1) (slice_index codes 2) (slice_index levels 0) (slice_index levels 1) (slice_index levels 2) }
+    ensures { result ≡ digest (slice_index codes 0) (slice_index codes 1) (slice_index codes 2) (slice_index levels 0) (slice_index levels 1) (slice_index levels 2) }
 {
     let [code_0, code_1, code_2] = codes.map(u64::from);
     let [level_0, level_1, level_2] = levels.map(u64::from);
@@ -20,7 +20,7 @@ pub fn digest(codes: [u16; 3], levels: [u8; 3]) -> u64
 
 #[tactic(auto, unfolding(crate::specs::Scenes::heard))]
 pub fn heard(chip: Mos6581) -> u64
-    ensures { result ≡ Scenes·heard chip }
+    ensures { result ≡ heard chip }
 {
     digest(
         [
@@ -53,7 +53,7 @@ fn tune(chip: Mos6581, base: u16, frequency: u16, control: u8) -> Mos6581
 
 #[tactic(auto, unfolding(crate::specs::Scenes::scene))]
 pub fn scene(control: u8) -> Mos6581
-    ensures { result ≡ Scenes·scene control }
+    ensures { result ≡ scene control }
 {
     let one = tune(Mos6581::new(), 0, 0x1d45, control);
     let two = tune(one, 7, 0x2b11, control);
@@ -62,7 +62,7 @@ pub fn scene(control: u8) -> Mos6581
 
 #[tactic(auto, unfolding(crate::specs::Scenes::next))]
 pub fn next(seed: u16) -> u16
-    ensures { result ≡ Scenes·next seed }
+    ensures { result ≡ next seed }
 {
     seed.wrapping_mul(25173).wrapping_add(13849)
 }

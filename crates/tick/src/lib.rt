@@ -294,7 +294,6 @@ pub fn tick_over(chip: Mos6581, pack: &[u16]) -> Ticked
         pot_y: chip.pot_y,
         cycle,
     };
-    // From the locals: a call of `heard` would read them out of the chip again, and this is the clock's path.
     Ticked {
         chip: after,
         code_0: tone_0.last_sample,
