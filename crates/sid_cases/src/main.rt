@@ -297,8 +297,8 @@ fn read(chip: Mos6581, address: u16) -> Answered {
     }
 }
 
-// The call of a record of 16 bytes. Its number, as an engine's and a rule's, is read in one place alone: an enum would
-// only be one match more.
+// The call of a record of 16 bytes. Its number and a rule's are read in one place alone, an engine's in two: enums of
+// them would only be matches more.
 fn made(record: &[u8], chip: Mos6581, pack: &mut [u16]) -> Answered {
     let value = words::u8_at(record, 1);
     let address = words::u16_at(record, 2);
