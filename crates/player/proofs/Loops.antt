@@ -13,14 +13,16 @@ use borrow.Author.Tests.{lt-ltb, le-ltb}
 use Rattle.listing.specs.Text.{Put, copied, text_room}
 use Rattle.listing.proofs.Joins.{then, put_kept, put_copied}
 use Rattle.oscillator.specs.Ways.{Ways}
+use Rattle.panel.specs.declared.Panel.{Panel}
 use Rattle.refusals.specs.Refusals.{refused}
 use Rattle.refusals.specs.declared.Refusal.TheVariants.{NoRoom}
+use Rattle.score.specs.Scores.{score_of}
 use Rattle.player.specs.declared.Player.{Player}
 use Rattle.player.specs.declared.Rest.{Rest}
 use Rattle.player.specs.declared.Rest.TheVariants.{Fields, Refusal, Nothing}
 use Rattle.player.specs.declared.Stepped.{Stepped}
 use Rattle.player.specs.Into.{into_answer, into_buffer}
-use Rattle.player.specs.Listing.{listing_by}
+use Rattle.player.specs.Listing.{listing_by, panel_of_by}
 use Rattle.player.specs.Steps.{start_of, is_nothing, Turn, turn, Does, PlaysScore, lines, after, most_steps, Made}
 use Rattle.player.proofs.Played.{turn_nothing, steps_play, enough_steps}
 
@@ -73,6 +75,23 @@ module _ (w : Ways) where
   unfolding after
   panel_none zero s p h = refl
   panel_none (suc n) s p h = absurd (omega arith)
+
+  -- from the start of a score it comes to what the score leaves
+  pub panel_first : (s : List ℕ) (p : Player) → p ≡ start_of s → (after w most_steps s p).panel ≡ panel_of_by w (score_of s)
+  panel_first s p e = ap (λ (q : Player). (after w most_steps s q).panel) e ∙ ap (λ (q : Player). q.panel) (steps_play w s most_steps (omega arith)).leaves
+
+  -- what n steps leave, the n - 1 after the first of them leave
+  pub panel_more
+      : (n : ℕ) (s : List ℕ) (p : Player) {l m : List ℕ} {r : Stepped} {panel : Panel}
+      → 0 < n
+      → Does (turn w s p) l r m
+      → (after w n s p).panel ≡ panel
+      → (after w (n - 1) s r.player).panel ≡ panel
+  unfolding after
+  panel_more zero s p h d e = absurd (omega arith)
+  panel_more (suc n) s p {r = r} h d e =
+      let i : suc n - 1 ≡ n = omega arith in
+      ap (λ (k : ℕ). (after w k s r.player).panel) i ∙ ap (λ (q : Player). (after w n s q).panel) d.player ∙ e
 
 -- n steps, and one after them
 module _ (w : Ways) (n : ℕ) (s : List ℕ) (p : Player) where
@@ -208,7 +227,7 @@ module _ {w : Ways} {s l : List ℕ} {left : ℕ} {r : Stepped} {m : List ℕ} (
       ap (after w left s) k.player
       ∙ (sym (after_join w k.made left s (start_of s)) ∙ ap (λ (n : ℕ). after w n s (start_of s)) k.count) in
       record {
-        panel = sym still ∙ ap (λ (p : Player). p.panel) (joined ∙ (steps_play w s most_steps (omega arith)).leaves);
+        panel = sym still ∙ (ap (λ (p : Player). p.panel) joined ∙ panel_first w s (start_of s) refl);
         len = k.len ∙ ap length all;
         put = λ room. subst (λ (text : List ℕ). Put l 0 text r.len m) all (k.put room);
       }

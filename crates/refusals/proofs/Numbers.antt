@@ -35,10 +35,10 @@ named_number Unsettled = refl
 pub number_tells : (a b : Refusal) → number_of a ≡ number_of b → a ≡ b
 number_tells a b e = sym (named_number a) ∙ ap named e ∙ named_number b
 
-untold : Told → Refused
+pub untold : Told → Refused
 untold t = refused (named t.number) t.place
 
-untold_told : (r : Refused) → untold (told r) ≡ r
+pub untold_told : (r : Refused) → untold (told r) ≡ r
 unfolding untold
 untold_told r = ap (λ (why : Refusal). refused why r.place) (named_number r.why)
 

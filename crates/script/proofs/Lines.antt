@@ -9,7 +9,7 @@ use mathlib.Core.Path.{◌≡◌, refl, ap, sym, ◌∙◌}
 use lib.Dec.{ltb, eqb}
 use lib.ListN.{length, take, drop, get_or, length-append, length-drop}
 use lib.Seq.{drop-drop, drop-append_seam, take_at, take-take}
-use borrow.Author.Tests.{lt-ltb, lt-leb}
+use borrow.Author.Tests.{lt-ltb, le-leb, lt-leb}
 use Rattle.laws.proofs.Cond.{by_test, either}
 use Rattle.score.specs.declared.Field.{Field}
 use Rattle.score.specs.declared.What.{What}
@@ -26,6 +26,10 @@ use Rattle.script.proofs.Numbers.{Within, here, number_back, number_within}
 -- ---- the end of a line
 
 module _ (text : List ℕ) (at : ℕ) where
+  pub end_past : length text ≤ at → length text ≡ line_end text at
+  unfolding line_end
+  end_past h = simp (le-leb (length text) at h)
+
   pub end_within : at < length text → at + index_of 10 (drop at text) ≡ line_end text at
   unfolding line_end
   end_within h = simp (lt-leb (length text) at h)
@@ -36,7 +40,7 @@ pub after_there : (limit : ℕ) (l : List ℕ) (at : ℕ) → at < length l → 
 unfolding number_after
 after_there limit l at h = simp (lt-ltb at (length l) h)
 
-after_within : (limit : ℕ) (l : List ℕ) (at : ℕ) → Within limit (number_after limit l at)
+pub after_within : (limit : ℕ) (l : List ℕ) (at : ℕ) → Within limit (number_after limit l at)
 unfolding number_after
 after_within limit l at = either (Within limit) (ltb at (length l)) (number_at limit l (at + 1)) None (number_within limit l (at + 1)) tt
 

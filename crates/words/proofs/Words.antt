@@ -1,8 +1,8 @@
--- A number is 0 where its bytes are not all there, and the same wherever its bytes are: so it is what is read from
--- them alone (`number_read`). Assumes nothing.
-use Prim.Native.Nat.{ℕ, zero, suc, ◌+◌, ◌≤◌, ◌<◌}
+-- A number is its lower bytes and, by a power of 256, its upper ones; it is 0 where not all are there, and the same
+-- wherever its bytes are: so it is what is read from them alone (`number_read`). Assumes nothing.
+use Prim.Native.Nat.{ℕ, zero, suc, ◌+◌, ◌*◌, ◌^◌, ◌≤◌, ◌<◌}
 use native.Mathlib.Omega.{arith}
-use native.Mathlib.Nat.{zero-add, add-zero}
+use native.Mathlib.Nat.{zero-add, add-zero, suc-add, one-mul, mul-add, mul_assoc, pow-succ'}
 use mathlib.Core.Path.{◌≡◌, refl, sym, subst₂, ap, ◌∙◌}
 use mathlib.Core.List.{List}
 use lib.ListN.{length, get_or}
@@ -12,14 +12,27 @@ use Rattle.std.proofs.lemmas.List.Edits.{get_or-between}
 use borrow.Author.Tests.{le-leb, lt-leb}
 use Rattle.words.specs.Words.{little, number_at}
 
-module _ (s : List ℕ) (k at : ℕ) where
-  pub number_there : at + k ≤ length s → number_at k s at ≡ little k s at
-  unfolding number_at
-  number_there h = simp (le-leb (at + k) (length s) h)
+module _ (s : List ℕ) where
+  little_join : (j k at : ℕ) → little (j + k) s at ≡ little j s at + 256 ^ j * little k s (at + j)
+  unfolding little
+  little_join zero k at = simp (zero-add, add-zero, one-mul)
+  little_join (suc j) k at =
+      let p : at + suc j ≡ at + 1 + j = omega arith in
+      rw (suc-add, little_join j k (at + 1), pow-succ', p) (omega (arith, mul-add 256 (little j s (at + 1)) (256 ^ j * little k s (at + 1 + j)), mul_assoc 256 (256 ^ j) (little k s (at + 1 + j))))
 
-  pub number_cut : length s < at + k → number_at k s at ≡ 0
-  unfolding number_at
-  number_cut h = simp (lt-leb (at + k) (length s) h)
+  module _ (k at : ℕ) where
+    pub number_there : at + k ≤ length s → number_at k s at ≡ little k s at
+    unfolding number_at
+    number_there h = simp (le-leb (at + k) (length s) h)
+
+    pub number_cut : length s < at + k → number_at k s at ≡ 0
+    unfolding number_at
+    number_cut h = simp (lt-leb (at + k) (length s) h)
+
+  -- a number is its lower bytes and, 256 times as much each, its upper ones
+  pub number_join : (j k at : ℕ) → at + (j + k) ≤ length s → number_at (j + k) s at ≡ number_at j s at + 256 ^ j * number_at k s (at + j)
+  number_join j k at h =
+      rw (number_there (j + k) at h, number_there j at (omega arith), number_there k (at + j) (omega arith)) (little_join j k at)
 
 module _ (s t : List ℕ) where
   little_same : (k i j : ℕ) → ((m : ℕ) → m < k → get_or s (i + m) 0 ≡ get_or t (j + m) 0) → little k s i ≡ little k t j

@@ -7,4 +7,4 @@ use Rattle.words.proofs.u64_at.Goals as goal
 
 pub returns : goal.returns
 unfolding little
-returns c = number_read 8 _ _ _ _ (from_le_bytes w64) (λ b. omega arith) c.bytes_at.ensures c.map_or.ensures
+returns c = omega (arith, number_read 8 _ _ _ _ (from_le_bytes w64) (λ b. omega arith) c.bytes_at.ensures c.map_or.ensures)
