@@ -81,7 +81,11 @@ pub fn read_full(file: &mut File, list: &mut [u8]) -> usize
     ensures { IsPrefixLen result list.new }
 {
     let mut done = 0;
-    while let Ok(n @ 1..) = file.read(&mut list[done..]) {
+    // asked only while there is room: a read of nothing is a call of the system's, too
+    while done < list.len() {
+        let Ok(n @ 1..) = file.read(&mut list[done..]) else {
+            break;
+        };
         done += n;
     }
     done

@@ -21,6 +21,15 @@ fn made(record: &[u8], e: Envelope, after: Envelope) -> Envelope {
     }
 }
 
+// The whole state, and by the methods what they tell of it.
+fn same(e: Envelope, after: Envelope) -> bool {
+    e.gate_is_high() == after.gate.input
+        && e.level() == after.volume
+        && e.held() == after.floor_hold
+        && e.read_level() == after.readback
+        && e == after
+}
+
 // A record of 21 bytes: the call, its operand (2), and the state after it.
 fn replay_envelope(list: &[u8]) -> Tally {
     let mut tally = Tally::new();
@@ -28,7 +37,7 @@ fn replay_envelope(list: &[u8]) -> Tally {
     for record in list.chunks_exact(21) {
         let after = states::state(&record[3..]);
         e = made(record, e, after);
-        tally = tally.count(e == after);
+        tally = tally.count(same(e, after));
     }
     tally
 }
@@ -40,13 +49,15 @@ struct Played {
 }
 
 impl Played {
-    // So many clocks, with this level after each.
-    fn clocked(mut self, clocks: u16, level: u8) -> Self {
+    // So many clocks, with this level after each. In locals: a field of `self` is copied out and in on each clock.
+    fn clocked(self, clocks: u16, level: u8) -> Self {
+        let mut e = self.e;
+        let mut tally = self.tally;
         for _ in 0..clocks {
-            self.e = self.e.clock();
-            self.tally = self.tally.count(self.e.level() == level);
+            e = e.clock();
+            tally = tally.count(e.level() == level);
         }
-        self
+        Self { e, tally }
     }
 }
 
@@ -56,7 +67,7 @@ fn replay_rise(tally: Tally, start: Envelope, runs: &[u8], end: Envelope) -> Tal
     for run in runs.chunks_exact(3) {
         played = played.clocked(words::u16_at(run, 1), words::u8_at(run, 0));
     }
-    played.tally.count(played.e == end)
+    played.tally.count(same(played.e, end))
 }
 
 fn started(late: bool, e: Envelope) -> Envelope {
