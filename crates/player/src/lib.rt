@@ -148,8 +148,8 @@ fn play_field(panel: Panel, f: Field, next: usize, pack: &[u16], text: &mut [u8;
     let done = do_field(ran.panel, f, next, &mut line);
     listing::copy_into(text, ran.len, &line[..done.len]);
     Stepped {
+        player: done.player,
         len: ran.len + done.len,
-        ..done
     }
 }
 
@@ -173,9 +173,12 @@ impl Player {
     pub fn step(self, s: &[u8], pack: &[u16], line: &mut [u8; TEXT]) -> Stepped
         ensures { Does (turn (over pack.now) s.now self) line.old result line.new }
     {
-        let at = match self.rest {
-            Rest::Fields { at } => at,
-            Rest::Refusal(r) => return refuse(self.panel, r, line),
+        let r = match self.rest {
+            Rest::Fields { at } => match reader::read_field(s, at) {
+                Ok((f, next)) => return play_field(self.panel, f, next, pack, line),
+                Err(r) => r,
+            },
+            Rest::Refusal(r) => r,
             Rest::Nothing => {
                 return Stepped {
                     player: self,
@@ -183,10 +186,7 @@ impl Player {
                 };
             }
         };
-        match reader::read_field(s, at) {
-            Ok((f, next)) => play_field(self.panel, f, next, pack, line),
-            Err(r) => refuse(self.panel, r, line),
-        }
+        refuse(self.panel, r, line)
     }
 }
 
@@ -198,21 +198,19 @@ pub const STEPS: u32 = 9362;
 fn play(s: &[u8], pack: &[u16], out: &mut [u8]) -> Stepped
     ensures { PlaysScore (over pack.now) s.now out.old result out.new }
 {
-    let mut done = Stepped {
-        player: Player::start(s),
-        len: 0,
-    };
+    let mut player = Player::start(s);
+    let mut len = 0;
     let mut line = [0u8; TEXT];
     for _ in 0..STEPS {
-        if done.player.rest.is_nothing() {
+        if player.rest.is_nothing() {
             break;
         }
-        let next = done.player.step(s, pack, &mut line);
-        listing::copy_into(out, done.len, &line[..next.len]);
-        done.player = next.player;
-        done.len += next.len;
+        let next = player.step(s, pack, &mut line);
+        listing::copy_into(out, len, &line[..next.len]);
+        player = next.player;
+        len += next.len;
     }
-    done
+    Stepped { player, len }
 }
 
 // The panel at a score's end, for a host that goes on from there; one that is refused runs no clock.

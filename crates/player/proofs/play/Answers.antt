@@ -9,13 +9,13 @@ use Rattle.player.proofs.Loops.{playing_none, playing_more, playing_all}
 use Rattle.player.proofs.play.Goals as goal
 
 pub loop-init : goal.loop-init
-loop-init c = (refl, playing_none _ _ _ c.start.ensures)
+loop-init c = (refl, playing_none _ _ _ c.start-player.ensures)
 
 pub returns-then-is_nothing : goal.returns-then-is_nothing
 returns-then-is_nothing c = playing_all c.loop.invariant.1 (inl (sym c.is_nothing.ensures ∙ c.if-is_nothing.true))
 
-pub overflow_add-done : goal.overflow_add-done
-overflow_add-done c =
+pub overflow_add-len : goal.overflow_add-len
+overflow_add-len c =
     let k = c.loop.invariant.1 in
     omega (arith, k.fits, k.count, c.step-next.ensures.fits)
 

@@ -10,4 +10,4 @@ use Rattle.player.proofs.Loops.{Playing}
 use Rattle.player.proofs.play.Given as goal
 
 abbrev pub invariant-loop : goal.invariant-loop
-invariant-loop l = (length l.line ≡ text_room) × Playing (over l.pack) l.s l.initial.out (most_steps - l.counter) l.done l.out
+invariant-loop l = (length l.line ≡ text_room) × Playing (over l.pack) l.s l.initial.out (most_steps - l.counter) (record { player = l.player; len = l.len }) l.out
