@@ -32,17 +32,26 @@ impl Tally {
         }
     }
 
-    pub fn count(mut self, same: bool) -> Self
+    pub fn count(self, same: bool) -> Self
         ensures { result ≡ counted self same }
     {
-        self.compared = self.compared.wrapping_add(1);
-        if !same {
-            if self.differ == 0 {
-                self.first = Some(self.compared);
-            }
-            self.differ = self.differ.wrapping_add(1);
+        let compared = self.compared.wrapping_add(1);
+        if same {
+            return Self { compared, ..self };
         }
-        self
+        let differ = self.differ.wrapping_add(1);
+        if self.differ == 0 {
+            return Self {
+                compared,
+                differ,
+                first: Some(compared),
+            };
+        }
+        Self {
+            compared,
+            differ,
+            ..self
+        }
     }
 }
 

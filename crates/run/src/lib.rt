@@ -37,15 +37,15 @@ pub fn run(chip: Mos6581, n: u64) -> Mos6581
 pub fn run_packed(chip: Mos6581, n: u64, pack: &[u16]) -> PackRan
     ensures { (result.chip ≡ pack_ran pack.now n chip) × (tells result.answer ≡ refusal (length pack.now)) }
 {
-    match pack::check(pack) {
-        Ok(()) => PackRan {
-            chip: run_over(chip, n, pack),
-            answer: Ok(()),
-        },
-        Err(refused) => PackRan {
+    if let Err(refused) = pack::check(pack) {
+        return PackRan {
             chip,
             answer: Err(refused),
-        },
+        };
+    }
+    PackRan {
+        chip: run_over(chip, n, pack),
+        answer: Ok(()),
     }
 }
 
@@ -61,15 +61,15 @@ pub fn run_over(chip: Mos6581, n: u64, pack: &[u16]) -> Mos6581
 pub fn render(chip: Mos6581, pack: &[u16], out: &mut [u16]) -> PackRan
     ensures { (result.chip ≡ pack_ran pack.now (clocks_in out.old) chip) × (tells result.answer ≡ refusal (length pack.now)) × (out.new ≡ pack_rendered pack.now chip out.old) }
 {
-    match pack::check(pack) {
-        Ok(()) => PackRan {
-            chip: render_over(chip, pack, out),
-            answer: Ok(()),
-        },
-        Err(refused) => PackRan {
+    if let Err(refused) = pack::check(pack) {
+        return PackRan {
             chip,
             answer: Err(refused),
-        },
+        };
+    }
+    PackRan {
+        chip: render_over(chip, pack, out),
+        answer: Ok(()),
     }
 }
 

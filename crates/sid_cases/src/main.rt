@@ -169,12 +169,16 @@ fn checked(before: Mos6581, gave: Answered, part: &[u16], out: &[u16]) -> Answer
 
 // Into a buffer, over a part of the pack: by the call that refuses all parts but the whole, or by the one that takes any.
 fn render(strict: bool, before: Mos6581, part: &[u16], out: &mut [u16]) -> Answered {
-    let gave = if strict {
-        ran(run::render(before, part, out))
-    } else {
-        shown(run::render_over(before, part, out))
-    };
-    if strict && part.len() != pack::LENGTH {
+    if !strict {
+        return checked(
+            before,
+            shown(run::render_over(before, part, out)),
+            part,
+            out,
+        );
+    }
+    let gave = ran(run::render(before, part, out));
+    if part.len() != pack::LENGTH {
         return gave;
     }
     checked(before, gave, part, out)

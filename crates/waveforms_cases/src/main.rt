@@ -18,10 +18,10 @@ fn prepare(table: &mut [u16]) {
 }
 
 fn untouched(table: &[u16]) -> bool {
-    table
-        .iter()
-        .enumerate()
-        .all(|(place, entry)| *entry == unfilled(place))
+    table.iter().enumerate().fold(
+        true,
+        |kept, (place, entry)| kept & (*entry == unfilled(place)),
+    )
 }
 
 // Document 01's number, 0 for a filled table; no number for a place that isn't 0.
@@ -99,20 +99,18 @@ impl Record {
         }
     }
 
-    fn compared(self, tally: Tally, table: &mut [u16], next: u16) -> Tally {
+    fn compared(self, mut tally: Tally, table: &mut [u16], next: u16) -> Tally {
         let Self {
             call,
             selection,
             operand,
             answer,
         } = self;
-        let tally = if matches!(call, Call::Entry | Call::Other) {
-            (next..operand).fold(tally, |tally, at| {
-                tally.count(holds(selection, table, at, 0))
-            })
-        } else {
-            tally
-        };
+        if matches!(call, Call::Entry | Call::Other) {
+            for at in next..operand {
+                tally = tally.count(holds(selection, table, at, 0));
+            }
+        }
         tally.count(match call {
             Call::Triangle => waveforms::triangle_from_phase(operand) == answer,
             Call::NeedsLoading => waveforms::needs_line_loading(selection) == (answer == 1),

@@ -10,12 +10,12 @@ use Rattle.run.specs.Render.{clocks_in, pack_rendered}
 use Rattle.run.proofs.Stored.{rendered_alike}
 use Rattle.run.proofs.render.Goals as goal
 
-pub returns-in-Ok : goal.returns-in-Ok
+pub returns : goal.returns
 unfolding pack_ran pack_rendered
-returns-in-Ok c =
+returns c =
     let args = c.args in
     let pack = args.pack.now in
-    let whole = c.in-Ok.ensures in
+    let whole = c.in_default.ensures in
     let made = c.render_over.ensures in (
       rw (eq-eqb (length pack) pack_length whole) (made.0 ∙ ticks_alike (over pack) (packed pack) (over_packed pack whole) (clocks_in args.out.now) args.chip),
       (right_length pack whole).0,

@@ -7,12 +7,12 @@ use Rattle.pack.proofs.Filling.{wrong_length, right_length}
 use Rattle.run.specs.Answers.{pack_ran}
 use Rattle.run.proofs.run_packed.Goals as goal
 
-pub returns-in-Ok : goal.returns-in-Ok
+pub returns : goal.returns
 unfolding pack_ran
-returns-in-Ok c =
+returns c =
     let args = c.args in
     let pack = args.pack.now in
-    let whole = c.in-Ok.ensures in (
+    let whole = c.in_default.ensures in (
       rw (eq-eqb (length pack) pack_length whole) (c.run_over.ensures ∙ ticks_alike (over pack) (packed pack) (over_packed pack whole) args.n args.chip),
       (right_length pack whole).0,
     )
