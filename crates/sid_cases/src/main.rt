@@ -168,6 +168,7 @@ fn checked(before: Mos6581, gave: Answered, part: &[u16], out: &[u16]) -> Answer
 }
 
 // Into a buffer, over a part of the pack: by the call that refuses all parts but the whole, or by the one that takes any.
+// Returned where it is made: chosen by an `if`, the chip is copied once more.
 fn render(strict: bool, before: Mos6581, part: &[u16], out: &mut [u16]) -> Answered {
     if !strict {
         return checked(
