@@ -5,8 +5,7 @@ use native.Mathlib.Omega.{arith}
 use native.Mathlib.Nat.{suc-mul}
 use mathlib.Core.Path.{◌≡◌, refl, ap, sym, ◌∙◌, subst}
 use mathlib.Core.Bool.{Bool, true, false, cond, ◌||◌}
-use mathlib.Core.List.{List, [], ◌∷◌}
-use Rattle.std.specs.Prelude.{find, unwrap_or}
+use mathlib.Core.List.{List}
 use borrow.Author.Tests.{ne_eqb, eqb-true}
 use lib.Dec.{eqb, ltb, T, eqb→eq}
 use lib.ListN.{get_or}
@@ -68,13 +67,15 @@ module _ (table : List ℕ) where
 
 -- ---- a divisor left over
 
--- the levels that queue a divisor on the way down, from the top
-abbrev pub queuing : List ℕ
-queuing = 0x5d ∷ 0x36 ∷ 0x1a ∷ 0x0e ∷ 0x06 ∷ 0x00 ∷ []
-
--- the next level that queues a divisor, by a search in them
+-- the next level that queues a divisor, in plain numbers
 abbrev pub plain : ℕ → ℕ
-plain v = unwrap_or (find (λ q. ltb q v) queuing) 0xff
+plain v =
+    cond (eqb v 0) 0xff
+    (cond (ltb 0x5d v) 0x5d
+    (cond (ltb 0x36 v) 0x36
+    (cond (ltb 0x1a v) 0x1a
+    (cond (ltb 0x0e v) 0x0e
+    (cond (ltb 0x06 v) 0x06 0)))))
 
 -- where that is 0, a level which itself queues one queues 30
 lowest : ℕ → Bool
@@ -87,7 +88,7 @@ turn_tested : (v : ℕ) → v < 256 → T (turns v)
 unfolding turns turn lowest all divisor_for
 turn_tested = all_at turns 256 tt
 
-pub turn_plain : (v : ℕ) → v < 256 → turn v ≡ unwrap_or (find (λ q. ltb q v) queuing) 0xff
+pub turn_plain : (v : ℕ) → v < 256 → turn v ≡ plain v
 unfolding turns
 turn_plain v l = eqb→eq (turn v) (plain v) (both_left (eqb (turn v) (plain v)) (lowest v) (turn_tested v l))
 

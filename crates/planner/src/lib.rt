@@ -2,7 +2,7 @@
 // counted.
 #![tactic(auto)]
 
-ghost use Rattle.std.specs.Prelude.{◌≡◌, true, cond, ◌-◌, ◌<◌, ◌≤◌, eqb, ltb, find};
+ghost use Rattle.std.specs.Prelude.{◌≡◌, true, cond, ◌-◌, ◌<◌, ◌≤◌, eqb};
 ghost use Rattle.release.specs.Release.{is_divisor, steps, matches, last_step};
 ghost use Rattle.release.specs.StepClocks.{lag};
 ghost use Rattle.planner.specs.Planner.{release_period, is_settled, last_step_of, to_zero, adds, turn, held_within};
@@ -17,21 +17,30 @@ pub fn matches_to_zero(level: u8) -> u16
     table()[level as usize]
 }
 
-// The levels that queue a divisor on the way down, from the top.
-const QUEUING: [u8; 6] = [0x5d, 0x36, 0x1a, 0x0e, 0x06, 0x00];
-
-fn first_below(levels: &[u8], level: u8) -> Option<u8>
-    ensures { result ≡ find (λ one. ltb one level) levels.now }
-{
-    levels.iter().copied().find(|one| *one < level)
-}
-
 // The next level on the way down that queues a divisor: 0xff of an unheld zero.
-#[tactic(auto, using(crate::proofs::Falls::turn_plain))]
+// Test by test: searched for or matched, the level is no number that the compiler knows, and with it the table's entry.
 fn turn(level: u8) -> u8
     ensures { result ≡ turn level }
 {
-    first_below(&QUEUING, level).unwrap_or(0xff)
+    if level == 0 {
+        return 0xff;
+    }
+    if 0x5d < level {
+        return 0x5d;
+    }
+    if 0x36 < level {
+        return 0x36;
+    }
+    if 0x1a < level {
+        return 0x1a;
+    }
+    if 0x0e < level {
+        return 0x0e;
+    }
+    if 0x06 < level {
+        return 0x06;
+    }
+    0
 }
 
 // The steps down that the divisor in force counts for.
