@@ -7,7 +7,7 @@ ghost use Rattle.std.specs.Prelude.{◌≡◌, length};
 
 use cases::Tally;
 use envelope::Envelope;
-use sid::Mos6581;
+use sid::{Mos6581, Voice};
 use tail::HeldRun;
 
 const DIVISORS: [u8; 6] = [1, 2, 4, 8, 16, 30];
@@ -29,6 +29,7 @@ fn shown(chip: Mos6581) -> Answered {
     }
 }
 
+#[inline(always)]
 fn forecast(chip: Mos6581, voice: u8) -> u64 {
     match tail::forecast(chip, voice) {
         Ok(clocks) => clocks as u64,
@@ -36,35 +37,53 @@ fn forecast(chip: Mos6581, voice: u8) -> u64 {
     }
 }
 
-// The chip with an envelope of its own in a voice.
-fn put(mut chip: Mos6581, voice: u8, envelope: Envelope) -> Mos6581 {
-    match voice {
-        0 => chip.voice_0.envelope = envelope,
-        1 => chip.voice_1.envelope = envelope,
-        _ => chip.voice_2.envelope = envelope,
+fn voice_with(v: Voice, envelope: Envelope) -> Voice {
+    let oscillator = v.oscillator;
+    Voice {
+        oscillator,
+        envelope,
     }
-    chip
+}
+
+// The chip with an envelope of its own in a voice.
+fn put(chip: Mos6581, voice: u8, envelope: Envelope) -> Mos6581 {
+    let v_0 = chip.voice_0;
+    let v_1 = chip.voice_1;
+    let v_2 = chip.voice_2;
+    let mut after = chip;
+    match voice {
+        0 => after.voice_0 = voice_with(v_0, envelope),
+        1 => after.voice_1 = voice_with(v_1, envelope),
+        _ => after.voice_2 = voice_with(v_2, envelope),
+    }
+    after
+}
+
+fn with_count(e: Envelope, divisor: u8, count: u8) -> Envelope {
+    let mut after = e;
+    after.curve_divisor = divisor;
+    after.curve_count = count;
+    after
 }
 
 // The forecasts with each count below a divisor, the highest first, in one digest.
-fn forecast_counts(mut digest: u64, chip: Mos6581, voice: u8, e: Envelope, divisor: u8) -> u64 {
-    for count in (0..divisor).rev() {
-        let with_count = Envelope {
-            curve_divisor: divisor,
-            curve_count: count,
-            ..e
-        };
-        digest = cases::mixed(digest, forecast(put(chip, voice, with_count), voice));
+fn forecast_counts(digest: u64, chip: Mos6581, voice: u8, e: Envelope, divisor: u8) -> u64 {
+    let mut answer = digest;
+    let mut count = divisor;
+    while 0 < count {
+        count = count - 1;
+        let with = put(chip, voice, with_count(e, divisor, count));
+        answer = cases::mixed(answer, forecast(with, voice));
     }
-    digest
+    answer
 }
 
 fn forecast_each(chip: Mos6581, voice: u8, e: Envelope) -> u64 {
-    let mut digest = 1;
-    for divisor in DIVISORS {
-        digest = forecast_counts(digest, chip, voice, e, divisor);
+    let mut answer: u64 = 1;
+    for place in 0..6usize {
+        answer = forecast_counts(answer, chip, voice, e, DIVISORS[place]);
     }
-    digest
+    answer
 }
 
 // What a run answered, and what it left to be seen, in one digest.

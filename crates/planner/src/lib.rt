@@ -18,7 +18,8 @@ pub fn matches_to_zero(level: u8) -> u16
 }
 
 // The next level on the way down that queues a divisor: 0xff of an unheld zero.
-// Test by test: searched for or matched, the level is no number that the compiler knows, and with it the table's entry.
+// Test by test, as `last_lag` and `is_settled`: so a list of forecasts is compiled with the numbers known, at a seventh of
+// the instructions (docs/DESIGN-PASS.md, 'Buffers, parallel arrays').
 fn turn(level: u8) -> u8
     ensures { result ≡ turn level }
 {
@@ -69,11 +70,13 @@ fn matches_left(e: Envelope) -> u32
 fn last_lag(level: u8, divisor: u8) -> u32
     ensures { (result ≡ lag (cond (eqb (turn level) 0) divisor 30)) × (result ≤ 3) }
 {
-    if turn(level) == 0 && divisor == 1 {
-        2
-    } else {
-        3
+    if turn(level) != 0 {
+        return 3;
     }
+    if divisor == 1 {
+        return 2;
+    }
+    3
 }
 
 fn is_divisor(divisor: u8) -> bool
@@ -86,14 +89,28 @@ fn is_divisor(divisor: u8) -> bool
 fn is_settled(e: Envelope) -> bool
     ensures { result ≡ is_settled e }
 {
-    !e.gate.input
-        && e.motion == EnvelopeMotion::FallingToZero
-        && !e.floor_hold
-        && e.quiescent()
-        && e.rate_target_phase == envelope::envelope_rate_period(e.fall_rate) - 1
-        && e.rate_phase < 32767
-        && is_divisor(e.curve_divisor)
-        && e.curve_count < e.curve_divisor
+    if e.gate.input {
+        return false;
+    }
+    if e.motion != EnvelopeMotion::FallingToZero {
+        return false;
+    }
+    if e.floor_hold {
+        return false;
+    }
+    if !e.quiescent() {
+        return false;
+    }
+    if e.rate_target_phase != envelope::envelope_rate_period(e.fall_rate) - 1 {
+        return false;
+    }
+    if 32767 <= e.rate_phase {
+        return false;
+    }
+    if !is_divisor(e.curve_divisor) {
+        return false;
+    }
+    e.curve_count < e.curve_divisor
 }
 
 #[tactic(auto, using(envelope::proofs::Periods::period_some))]
