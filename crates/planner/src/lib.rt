@@ -18,7 +18,7 @@ pub fn matches_to_zero(level: u8) -> u16
 }
 
 // The next level on the way down that queues a divisor: 0xff of an unheld zero.
-// Test by test, as `last_lag` and `is_settled`: so a list of forecasts is compiled with the numbers known, at a seventh of
+// Test by test, as `last_lag`, `is_divisor` and `is_settled`: so a list of forecasts is compiled with the numbers known, at a seventh of
 // the instructions (docs/DESIGN-PASS.md, 'Buffers, parallel arrays').
 fn turn(level: u8) -> u8
     ensures { result ≡ turn level }
@@ -82,7 +82,15 @@ fn last_lag(level: u8, divisor: u8) -> u32
 fn is_divisor(divisor: u8) -> bool
     ensures { result ≡ is_divisor divisor }
 {
-    matches!(divisor, 1 | 2 | 4 | 8 | 16 | 30)
+    match divisor {
+        1 => true,
+        2 => true,
+        4 => true,
+        8 => true,
+        16 => true,
+        30 => true,
+        _ => false,
+    }
 }
 
 #[tactic(auto, using(envelope::proofs::Periods::period_some), unfolding(crate::specs::Planner::is_settled))]
