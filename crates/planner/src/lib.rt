@@ -18,8 +18,8 @@ pub fn matches_to_zero(level: u8) -> u16
 }
 
 // The next level on the way down that queues a divisor: 0xff of an unheld zero.
-// Test by test, as `last_lag`, `is_divisor` and `is_settled`: so a list of forecasts is compiled with the numbers known, at a seventh of
-// the instructions (docs/DESIGN-PASS.md, 'Buffers, parallel arrays').
+// Test by test, as are `last_lag`, `is_divisor` and `is_settled`: so a list of forecasts is compiled with the numbers
+// known, at half the instructions (docs/DESIGN-PASS.md, 'Buffers, parallel arrays').
 fn turn(level: u8) -> u8
     ensures { result ≡ turn level }
 {
